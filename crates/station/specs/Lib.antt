@@ -1,0 +1,3 @@
+pub mod Labels
+pub mod Same
+pub mod Weights

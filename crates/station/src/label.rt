@@ -1,0 +1,73 @@
+// Labels: 0 to 24 bytes, each from 20 to 7E hexadecimal.
+ghost use Prim.Native.Nat.{_≤_};
+ghost use mathlib.Core.Bool.{not};
+ghost use mathlib.Core.List.{[], _∷_};
+ghost use mathlib.Core.Path.{_≡_};
+ghost use lib.ListN.{length, take};
+ghost use Rattle.std.specs.Vec.{made};
+ghost use Rattle.refusal.specs.Refusals.{told, first, answered};
+ghost use Rattle.station.specs.Labels.{printable, legal, padded, label-of, station-with};
+use crate::record::Station;
+use crate::record::Status;
+use refusal::Refusal;
+
+const ROOM: usize = 24;
+
+// Whether a label may have the byte.
+fn is_printable(byte: u8) -> bool
+    ensures { λ r. ⌜ r ≡ printable byte ⌝ }
+{
+    byte >= 0x20 && byte <= 0x7e
+}
+
+// How many bytes come before the first that no label has.
+fn label_len(bytes: &[u8]) -> usize
+    ensures within { λ r. ⌜ r ≤ length (now (bytes .entry)) ⌝ }
+    ensures label { λ r. ⌜ take r (now (bytes .entry)) ≡ label-of (now (bytes .entry)) ⌝ }
+{
+    for (n, byte) in bytes.iter().enumerate() {
+        if !is_printable(*byte) {
+            return n;
+        }
+    }
+    bytes.len()
+}
+
+// Whether the bytes are a label.
+fn is_legal(bytes: &[u8]) -> bool
+    ensures { λ r. ⌜ r ≡ legal (now (bytes .entry)) ⌝ }
+{
+    bytes.len() <= ROOM && label_len(bytes) == bytes.len()
+}
+
+// The label in a record's 24 bytes, with zeros behind it.
+fn padded_label(bytes: &[u8]) -> [u8; 24]
+    requires { ⌜ length (now bytes) ≤ 24 ⌝ }
+    ensures { λ r. ⌜ r ≡ padded (now (bytes .entry)) ⌝ }
+{
+    let mut room = [0u8; ROOM];
+    let n = bytes.len();
+    room[0..n].copy_from_slice(bytes);
+    room
+}
+
+impl Station {
+    // A record with the label, which is tested before anything is copied.
+    pub fn new(label: &[u8], status: Status, up: u64, down: u64) -> Result<Station, Refusal>
+        ensures value { λ r. ⌜ told r ≡ answered (first ((not (legal (now (label .entry))), 4) ∷ [])) (station-with (now (label .entry)) status up down) ⌝ }
+        ensures labelled { λ r. ⌜ made r (λ s. label-of (s .label) ≡ now (label .entry)) ⌝ }
+    {
+        if !is_legal(label) {
+            return Err(Refusal::BadLabel);
+        }
+        Ok(Station { label: padded_label(label), status, up, down })
+    }
+
+    // The label's bytes.
+    pub fn label(&self) -> &[u8]
+        ensures { λ r. ⌜ now r ≡ label-of (now (self .entry) .label) ⌝ }
+    {
+        let n = label_len(&self.label);
+        &self.label[0..n]
+    }
+}

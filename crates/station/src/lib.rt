@@ -1,0 +1,5 @@
+// Stations: the record, its label, and the weights that a status gives.
+pub mod label;
+pub mod record;
+pub mod same;
+pub mod weights;
