@@ -1,0 +1,5 @@
+pub mod Laws
+pub mod Runs
+pub mod Sound
+pub mod Stretch
+pub mod Weights
