@@ -1,3 +1,4 @@
 pub mod Labels
 pub mod Same
 pub mod Weights
+pub mod Words

@@ -1,5 +1,6 @@
-// Stations: the record, its label, and the weights that a status gives.
+// Stations: the record, its label, the words for statuses, and the weights that a status gives.
 pub mod label;
 pub mod record;
 pub mod same;
 pub mod weights;
+pub mod words;
