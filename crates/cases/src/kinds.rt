@@ -1,4 +1,5 @@
 // What kinds take and refuse, run cells that no summary has, and the order of a joining.
+use kind::Kind;
 use kind::figures::Figures;
 use kind::figures::FiguresDebug;
 use kind::figures::FiguresPartialEq;
@@ -9,7 +10,6 @@ use kind::stretch::window_of;
 use kind::summary::RunCell;
 use kind::weights::Weights;
 use kind::weights::WeightsKind;
-use kind::Kind;
 use refusal::Refusal;
 use refusal::RefusalDebug;
 use semiring::counts::Counts;
@@ -70,21 +70,89 @@ fn thresholds_outside() -> Result<(), Fail> {
 
 #[test]
 fn no_station() -> Result<(), Fail> {
-    check_eq(window_of(&Weights::new(Counts, 2)?, &[])?, Figures { first: 0, second: 1 })?;
-    check_eq(window_of(&Runs, &[])?, Figures { first: 0, second: 0 })
+    check_eq(
+        window_of(&Weights::new(Counts, 2)?, &[])?,
+        Figures {
+            first: 0,
+            second: 1,
+        },
+    )?;
+    check_eq(
+        window_of(&Runs, &[])?,
+        Figures {
+            first: 0,
+            second: 0,
+        },
+    )
 }
 
 // A cell that breaks what every summary keeps stands for the empty one.
 #[test]
 fn run_cells() -> Result<(), Fail> {
     let rows = [
-        (RunCell { all: false, first: 1, last: 2, longest: 3 }, (3, 1)),
-        (RunCell { all: true, first: 3, last: 3, longest: 3 }, (3, 3)),
-        (RunCell { all: false, first: 3, last: 3, longest: 3 }, (3, 3)),
-        (RunCell { all: false, first: 4, last: 2, longest: 3 }, (0, 0)),
-        (RunCell { all: false, first: 1, last: 4, longest: 3 }, (0, 0)),
-        (RunCell { all: true, first: 2, last: 3, longest: 3 }, (0, 0)),
-        (RunCell { all: true, first: 3, last: 2, longest: 3 }, (0, 0)),
+        (
+            RunCell {
+                all: false,
+                first: 1,
+                last: 2,
+                longest: 3,
+            },
+            (3, 1),
+        ),
+        (
+            RunCell {
+                all: true,
+                first: 3,
+                last: 3,
+                longest: 3,
+            },
+            (3, 3),
+        ),
+        (
+            RunCell {
+                all: false,
+                first: 3,
+                last: 3,
+                longest: 3,
+            },
+            (3, 3),
+        ),
+        (
+            RunCell {
+                all: false,
+                first: 4,
+                last: 2,
+                longest: 3,
+            },
+            (0, 0),
+        ),
+        (
+            RunCell {
+                all: false,
+                first: 1,
+                last: 4,
+                longest: 3,
+            },
+            (0, 0),
+        ),
+        (
+            RunCell {
+                all: true,
+                first: 2,
+                last: 3,
+                longest: 3,
+            },
+            (0, 0),
+        ),
+        (
+            RunCell {
+                all: true,
+                first: 3,
+                last: 2,
+                longest: 3,
+            },
+            (0, 0),
+        ),
     ];
     for (cell, (first, second)) in rows {
         let summary = Runs.from_cell(&cell);
@@ -98,11 +166,37 @@ fn run_cells() -> Result<(), Fail> {
 // Counts of runs stop at 4,294,967,295.
 #[test]
 fn runs_stop() -> Result<(), Fail> {
-    let most = Runs.from_cell(&RunCell { all: true, first: 4_294_967_295, last: 4_294_967_295, longest: 4_294_967_295 });
+    let most = Runs.from_cell(
+        &RunCell {
+            all: true,
+            first: 4_294_967_295,
+            last: 4_294_967_295,
+            longest: 4_294_967_295,
+        },
+    );
     let joined = Runs.join(&most, &most);
-    check_eq(Runs.window_figures(&joined), Figures { first: 4_294_967_295, second: 4_294_967_295 })?;
-    let ends = Runs.from_cell(&RunCell { all: false, first: 4_000_000_000, last: 4_000_000_000, longest: 4_000_000_000 });
-    check_eq(Runs.ring_figures(&ends), Figures { first: 4_294_967_295, second: 4_294_967_295 })
+    check_eq(
+        Runs.window_figures(&joined),
+        Figures {
+            first: 4_294_967_295,
+            second: 4_294_967_295,
+        },
+    )?;
+    let ends = Runs.from_cell(
+        &RunCell {
+            all: false,
+            first: 4_000_000_000,
+            last: 4_000_000_000,
+            longest: 4_000_000_000,
+        },
+    );
+    check_eq(
+        Runs.ring_figures(&ends),
+        Figures {
+            first: 4_294_967_295,
+            second: 4_294_967_295,
+        },
+    )
 }
 
 // The left stretch comes first.
@@ -110,6 +204,18 @@ fn runs_stop() -> Result<(), Fail> {
 fn joining_has_an_order() -> Result<(), Fail> {
     let down = Runs.single(&Station::new(b"", Status::Down, 0, 0)?);
     let up = Runs.single(&Station::new(b"", Status::Up, 0, 0)?);
-    check_eq(Runs.window_figures(&Runs.join(&down, &up)), Figures { first: 1, second: 1 })?;
-    check_eq(Runs.window_figures(&Runs.join(&up, &down)), Figures { first: 1, second: 0 })
+    check_eq(
+        Runs.window_figures(&Runs.join(&down, &up)),
+        Figures {
+            first: 1,
+            second: 1,
+        },
+    )?;
+    check_eq(
+        Runs.window_figures(&Runs.join(&up, &down)),
+        Figures {
+            first: 1,
+            second: 0,
+        },
+    )
 }

@@ -2,6 +2,7 @@
 use matrix::threshold::Threshold;
 use refusal::Refusal;
 use refusal::RefusalDebug;
+use semiring::Semiring;
 use semiring::costs::Costs;
 use semiring::costs::CostsSemiring;
 use semiring::counts::Counts;
@@ -10,7 +11,6 @@ use semiring::modulus::Residues;
 use semiring::product_all;
 use semiring::residues::ResiduesSemiring;
 use semiring::sum_all;
-use semiring::Semiring;
 use std::test::*;
 
 // Two codes, their sum and their product.
@@ -44,10 +44,19 @@ fn counts_stop() -> Result<(), Fail> {
 
 #[test]
 fn residues_wrap() -> Result<(), Fail> {
-    let seven = [Row(3, 5, 1, 1), Row(6, 6, 5, 1), Row(0, 4, 4, 0), Row(7, 1, 0, 0), Row(1, 7, 0, 0)];
+    let seven = [
+        Row(3, 5, 1, 1),
+        Row(6, 6, 5, 1),
+        Row(0, 4, 4, 0),
+        Row(7, 1, 0, 0),
+        Row(1, 7, 0, 0),
+    ];
     holds(&Residues::new(7)?, &seven)?;
     let most = Residues::new(2_147_483_647)?;
-    holds(&most, &[Row(2_147_483_646, 2_147_483_646, 2_147_483_645, 1)])?;
+    holds(
+        &most,
+        &[Row(2_147_483_646, 2_147_483_646, 2_147_483_645, 1)],
+    )?;
     check(most.is_member(2_147_483_646))?;
     check(!most.is_member(2_147_483_647))
 }
@@ -91,7 +100,14 @@ fn refused<T: Drop>(answer: Result<T, Refusal>) -> u8 {
 
 #[test]
 fn ranges() -> Result<(), Fail> {
-    let moduli = [(0, 1), (1, 1), (2, 0), (2_147_483_647, 0), (2_147_483_648, 1), (18_446_744_073_709_551_615, 1)];
+    let moduli = [
+        (0, 1),
+        (1, 1),
+        (2, 0),
+        (2_147_483_647, 0),
+        (2_147_483_648, 1),
+        (18_446_744_073_709_551_615, 1),
+    ];
     for (m, number) in moduli {
         check_eq(refused(Residues::new(m)), number)?;
     }

@@ -16,7 +16,13 @@ fn made(label: &[u8]) -> Result<Station, Refusal> {
 
 #[test]
 fn labels_that_are_taken() -> Result<(), Fail> {
-    let labels: [&[u8]; 5] = [b"", b"A", b" ~", b"Pump 7, \"north\"", b"abcdefghijklmnopqrstuvwx"];
+    let labels: [&[u8]; 5] = [
+        b"",
+        b"A",
+        b" ~",
+        b"Pump 7, \"north\"",
+        b"abcdefghijklmnopqrstuvwx",
+    ];
     for label in labels {
         let station = made(label)?;
         check(station.label() == label)?;
@@ -29,7 +35,13 @@ fn labels_that_are_taken() -> Result<(), Fail> {
 
 #[test]
 fn labels_that_are_refused() -> Result<(), Fail> {
-    let labels: [&[u8]; 5] = [b"abcdefghijklmnopqrstuvwxy", b"\x1f", b"a\x7f", b"\x80", b"line\n"];
+    let labels: [&[u8]; 5] = [
+        b"abcdefghijklmnopqrstuvwxy",
+        b"\x1f",
+        b"a\x7f",
+        b"\x80",
+        b"line\n",
+    ];
     for label in labels {
         match made(label) {
             Ok(_) => return Err(Fail::new("a label was taken")),

@@ -1,8 +1,8 @@
 // One line of output for each thing shown.
+use kind::Kind;
 use kind::figures::Figures;
 use kind::stretch::ring_of;
 use kind::stretch::window_of;
-use kind::Kind;
 use refusal::Refusal;
 use station::record::Station;
 use std::io;

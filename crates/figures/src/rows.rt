@@ -24,29 +24,69 @@ fn judged(up: u64, down: u64) -> Result<Station, Refusal> {
 fn counts(rt: &LibcRuntime) -> Result<(), Trouble> {
     let one = judged(1, 1)?;
     let five = [one; 5];
-    report::both(rt, "counts, k 2, 1 station of 1 and 1", &Weights::new(Counts, 2)?, &five[0..1])?;
-    report::both(rt, "counts, k 1, 1 station of 1 and 1", &Weights::new(Counts, 1)?, &five[0..1])?;
-    report::both(rt, "counts, k 2, 4 stations of 1 and 1", &Weights::new(Counts, 2)?, &five[0..4])?;
+    report::both(
+        rt,
+        "counts, k 2, 1 station of 1 and 1",
+        &Weights::new(Counts, 2)?,
+        &five[0..1],
+    )?;
+    report::both(
+        rt,
+        "counts, k 1, 1 station of 1 and 1",
+        &Weights::new(Counts, 1)?,
+        &five[0..1],
+    )?;
+    report::both(
+        rt,
+        "counts, k 2, 4 stations of 1 and 1",
+        &Weights::new(Counts, 2)?,
+        &five[0..4],
+    )?;
     let three = Weights::new(Counts, 3)?;
     report::both(rt, "counts, k 3, 5 stations of 1 and 1", &three, &five)?;
-    report::both(rt, "counts, k 3, places 2 to 4 of these", &three, &five[1..4])?;
-    report::both(rt, "counts, k 3, 2 stations of 1 and 1", &three, &five[0..2])?;
+    report::both(
+        rt,
+        "counts, k 3, places 2 to 4 of these",
+        &three,
+        &five[1..4],
+    )?;
+    report::both(
+        rt,
+        "counts, k 3, 2 stations of 1 and 1",
+        &three,
+        &five[0..2],
+    )?;
     let full = [judged(1, 1_000_000_000)?; 2];
-    report::both(rt, "counts, k 1, 2 stations of 1 and 1000000000", &Weights::new(Counts, 1)?, &full)?;
+    report::both(
+        rt,
+        "counts, k 1, 2 stations of 1 and 1000000000",
+        &Weights::new(Counts, 1)?,
+        &full,
+    )?;
     Ok(())
 }
 
 fn residues(rt: &LibcRuntime) -> Result<(), Trouble> {
     let four = [judged(1, 1)?; 4];
     let seven = Residues::new(7)?;
-    report::both(rt, "residues by 7, k 2, 4 stations of 1 and 1", &Weights::new(seven, 2)?, &four)?;
+    report::both(
+        rt,
+        "residues by 7, k 2, 4 stations of 1 and 1",
+        &Weights::new(seven, 2)?,
+        &four,
+    )?;
     Ok(())
 }
 
 fn costs(rt: &LibcRuntime) -> Result<(), Trouble> {
     let mut four = [judged(0, 2)?, judged(0, 9)?, judged(0, 4)?, judged(0, 1)?];
     let two = Weights::new(Costs, 2)?;
-    report::both(rt, "costs, k 2, 4 stations of 0 and 2, 9, 4, 1", &two, &four)?;
+    report::both(
+        rt,
+        "costs, k 2, 4 stations of 0 and 2, 9, 4, 1",
+        &two,
+        &four,
+    )?;
     four[0].status = Status::Up;
     report::both(rt, "costs, k 2, these with place 1 up", &two, &four)?;
     Ok(())
@@ -63,7 +103,10 @@ fn runs(rt: &LibcRuntime) -> Result<(), Trouble> {
 }
 
 pub fn show(rt: &LibcRuntime) -> Result<(), Trouble> {
-    println!(rt, "Example rows: failing and working, or longest and front run")?;
+    println!(
+        rt,
+        "Example rows: failing and working, or longest and front run"
+    )?;
     counts(rt)?;
     residues(rt)?;
     costs(rt)?;

@@ -110,10 +110,10 @@ through ga la y fc gc =
     let u : capped (la + y) ≤ capped (la + y + fc) = omega arith in
     let v : capped (y + fc) ≤ capped (la + y + fc) = omega arith in
     ap (max (max (longest-of ga y la y) gc)) e1
-      ∙ absorb-left (max ga y) (capped (la + y)) gc t u
-      ∙ ap (λ m. max m t) (max-assoc ga y gc)
-      ∙ sym (absorb-right ga (max y gc) (capped (y + fc)) t v)
-      ∙ ap (max (max ga (longest-of y gc y fc))) (sym e2)
+    ∙ absorb-left (max ga y) (capped (la + y)) gc t u
+    ∙ ap (λ m. max m t) (max-assoc ga y gc)
+    ∙ sym (absorb-right ga (max y gc) (capped (y + fc)) t v)
+    ∙ ap (max (max ga (longest-of y gc y fc))) (sym e2)
 
 max-swap : (p u q : ℕ) → max (max p u) q ≡ max (max p q) u
 max-swap p u q = omega arith
@@ -122,8 +122,8 @@ max-swap p u q = omega arith
 around : (a b c u v : ℕ) → max (max (max (max a b) u) c) v ≡ max (max a (max (max b c) v)) u
 around a b c u v =
     ap (λ t. max t v) (max-swap (max a b) u c)
-      ∙ max-swap (max (max a b) c) u v
-      ∙ ap (λ t. max t u) (ap (λ t. max t v) (max-assoc a b c) ∙ max-assoc a (max b c) v)
+    ∙ max-swap (max (max a b) c) u v
+    ∙ ap (λ t. max t u) (ap (λ t. max t v) (max-assoc a b c) ∙ max-assoc a (max b c) v)
 
 longest-assoc : (e : Bool) (ga la fb lb gb fc gc : ℕ) → Facts e fb lb gb → longest-of (longest-of ga gb la fb) gc (goes-on e lb la) fc ≡ longest-of ga (longest-of gb gc lb fc) la (goes-on e fb fc)
 longest-assoc true ga la fb lb gb fc gc x =
@@ -142,9 +142,9 @@ runs-assoc a b c =
     (l .first ∙ ap₂ (λ t u. goes-on t u (c .first)) (ab .all) (ab .first) ∙ first-assoc (a .all) (b .all) (a .first) (b .first) (c .first) ∙ sym (r .first ∙ ap (goes-on (a .all) (a .first)) (bc .first)))
     (l .last ∙ ap (goes-on (c .all) (c .last)) (ab .last) ∙ sym (first-assoc (c .all) (b .all) (c .last) (b .last) (a .last)) ∙ ap (λ t. goes-on t (goes-on (c .all) (c .last) (b .last)) (a .last)) (and-swap (c .all) (b .all)) ∙ sym (r .last ∙ ap₂ (λ t u. goes-on t u (a .last)) (bc .all) (bc .last)))
     (l .longest
-      ∙ ap₂ (λ t u. longest-of t (c .longest) u (c .first)) (ab .longest) (ab .last)
-      ∙ longest-assoc (b .all) (a .longest) (a .last) (b .first) (b .last) (b .longest) (c .first) (c .longest) (facts (b .all) (b .first) (b .last) (b .longest) (b .ok))
-      ∙ sym (r .longest ∙ ap₂ (λ t u. longest-of (a .longest) t (a .last) u) (bc .longest) (bc .first)))
+    ∙ ap₂ (λ t u. longest-of t (c .longest) u (c .first)) (ab .longest) (ab .last)
+    ∙ longest-assoc (b .all) (a .longest) (a .last) (b .first) (b .last) (b .longest) (c .first) (c .longest) (facts (b .all) (b .first) (b .last) (b .longest) (b .ok))
+    ∙ sym (r .longest ∙ ap₂ (λ t u. longest-of (a .longest) t (a .last) u) (bc .longest) (bc .first)))
 
 pub runs-left : (a : RunSummary) → joined-runs no-run a ≡ a
 runs-left a =
@@ -165,6 +165,7 @@ runs-right a =
     and-true : (e : Bool) → (e && true) ≡ e
     and-true true = refl
     and-true false = refl
+
     by : (e : Bool) → Facts e (a .first) (a .last) (a .longest) → goes-on e (a .first) 0 ≡ a .first
     by true f = omega arith
     by false f = refl

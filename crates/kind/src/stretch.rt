@@ -2,8 +2,8 @@
 ghost use mathlib.Core.Path.{_≡_};
 ghost use Rattle.refusal.specs.Refusals.{told, answered};
 ghost use Rattle.kind.specs.Stretch.{takes-all, joined-all, window-refusal, ring-refusal};
-use crate::figures::Figures;
 use crate::Kind;
+use crate::figures::Figures;
 use refusal::Refusal;
 use station::record::Station;
 

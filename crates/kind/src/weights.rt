@@ -6,8 +6,8 @@ ghost use lib.Dec.{leb};
 ghost use Rattle.std.specs.Vec.{made};
 ghost use Rattle.refusal.specs.Refusals.{told-as, first, answered};
 ghost use Rattle.kind.specs.Weights.{weights-kind};
-use crate::figures::Figures;
 use crate::Kind;
+use crate::figures::Figures;
 use matrix::chain;
 use matrix::figures;
 use matrix::plain::Matrix;
@@ -30,12 +30,16 @@ impl<S: Copy> Weights<S> {
         ensures semiring { λ r. ⌜ made r (λ w. w .semiring ≡ semiring) ⌝ }
     {
         let threshold = Threshold::new(k)?;
-        Ok(Weights { semiring, threshold })
+        Ok(Weights {
+            semiring,
+            threshold,
+        })
     }
 }
 
 pub impl<S: Semiring> Kind for Weights<S> as WeightsKind {
     type Element = Matrix;
+
     type Cell = Matrix;
 
     ghost ops = { λ w. weights-kind (S·Semiring .ops (w .semiring)) (w .threshold .k) };

@@ -65,11 +65,11 @@ module _ (S : SemiringOps) (L : SemiringLaws S) (w : ℕ) where
   times-assoc : (F G H : ℕ → ℕ → ℕ) → AllIn S F → AllIn S G → AllIn S H → (i j : ℕ) → times S w (times S w F G) H i j ≡ times S w F (times S w G H) i j
   times-assoc F G H hF hG hH i j =
       sum-over-cong S _ _ (counting 0 w) (λ l. sum-over-times S L (λ m. S .product (F i m) (G m l)) (λ m. L .product-in (F i m) (G m l) (hF i m) (hG m l)) (H l j) (hH l j) (counting 0 w))
-        ∙ sum-over-swap S L (λ l m. S .product (S .product (F i m) (G m l)) (H l j)) (λ l m. L .product-in (S .product (F i m) (G m l)) (H l j) (L .product-in (F i m) (G m l) (hF i m) (hG m l)) (hH l j)) (counting 0 w) (counting 0 w)
-        ∙ sum-over-cong S _ _ (counting 0 w)
-          (λ m.
-            sum-over-cong S _ _ (counting 0 w) (λ l. L .product-assoc (F i m) (G m l) (H l j) (hF i m) (hG m l) (hH l j))
-              ∙ sym (times-sum-over S L (λ l. S .product (G m l) (H l j)) (λ l. L .product-in (G m l) (H l j) (hG m l) (hH l j)) (F i m) (hF i m) (counting 0 w)))
+      ∙ sum-over-swap S L (λ l m. S .product (S .product (F i m) (G m l)) (H l j)) (λ l m. L .product-in (S .product (F i m) (G m l)) (H l j) (L .product-in (F i m) (G m l) (hF i m) (hG m l)) (hH l j)) (counting 0 w) (counting 0 w)
+      ∙ sum-over-cong S _ _ (counting 0 w)
+      (λ m.
+      sum-over-cong S _ _ (counting 0 w) (λ l. L .product-assoc (F i m) (G m l) (H l j) (hF i m) (hG m l) (hH l j))
+      ∙ sym (times-sum-over S L (λ l. S .product (G m l) (H l j)) (λ l. L .product-in (G m l) (H l j) (hG m l) (hH l j)) (F i m) (hF i m) (counting 0 w)))
 
   delta-in : AllIn S (delta S)
   delta-in i j = choice-in S (eqb i j) (S .one) (S .zero) (L .one-in) (L .zero-in)
@@ -77,16 +77,16 @@ module _ (S : SemiringOps) (L : SemiringLaws S) (w : ℕ) where
   times-one-left : (F : ℕ → ℕ → ℕ) → AllIn S F → (i j : ℕ) → i < w → times S w (delta S) F i j ≡ F i j
   times-one-left F hF i j hi =
       sum-over-pick S L (λ l. S .product (delta S i l) (F l j)) (λ l. L .product-in (delta S i l) (F l j) (delta-in i l) (hF l j)) w i hi
-        (λ l hl ne. ap (λ t. S .product t (F l j)) (cond-false (eqb i l) (S .one) (S .zero) (ne-eqb i l (λ e. ne (sym e)))) ∙ L .zero-left (F l j) (hF l j))
-        ∙ ap (λ t. S .product t (F i j)) (cond-true (eqb i i) (S .one) (S .zero) (eq-eqb i i refl))
-        ∙ L .one-left (F i j) (hF i j)
+      (λ l hl ne. ap (λ t. S .product t (F l j)) (cond-false (eqb i l) (S .one) (S .zero) (ne-eqb i l (λ e. ne (sym e)))) ∙ L .zero-left (F l j) (hF l j))
+      ∙ ap (λ t. S .product t (F i j)) (cond-true (eqb i i) (S .one) (S .zero) (eq-eqb i i refl))
+      ∙ L .one-left (F i j) (hF i j)
 
   times-one-right : (F : ℕ → ℕ → ℕ) → AllIn S F → (i j : ℕ) → j < w → times S w F (delta S) i j ≡ F i j
   times-one-right F hF i j hj =
       sum-over-pick S L (λ l. S .product (F i l) (delta S l j)) (λ l. L .product-in (F i l) (delta S l j) (hF i l) (delta-in l j)) w j hj
-        (λ l hl ne. ap (λ t. S .product (F i l) t) (cond-false (eqb l j) (S .one) (S .zero) (ne-eqb l j ne)) ∙ L .zero-right (F i l) (hF i l))
-        ∙ ap (λ t. S .product (F i j) t) (cond-true (eqb j j) (S .one) (S .zero) (eq-eqb j j refl))
-        ∙ L .one-right (F i j) (hF i j)
+      (λ l hl ne. ap (λ t. S .product (F i l) t) (cond-false (eqb l j) (S .one) (S .zero) (ne-eqb l j ne)) ∙ L .zero-right (F i l) (hF i l))
+      ∙ ap (λ t. S .product (F i j) t) (cond-true (eqb j j) (S .one) (S .zero) (eq-eqb j j refl))
+      ∙ L .one-right (F i j) (hF i j)
 
   module _ (small : w ≤ 9) where
     pub unit-fit : Fit S w (unit-matrix S w)
@@ -105,11 +105,11 @@ module _ (S : SemiringOps) (L : SemiringLaws S) (w : ℕ) where
     joined-assoc a b c fa fb fc =
         table-cong w (entry S w (joined S w a b) c) (entry S w a (joined S w b c))
         (λ i j hi hj.
-          entry-full S w (joined S w a b) c i j hi hj
-            ∙ sum-over-below S _ _ w (λ l hl. ap (λ t. S .product t (full S w c l j)) (full-joined a b i l hi hl))
-            ∙ times-assoc (full S w a) (full S w b) (full S w c) (full-in S L w a fa) (full-in S L w b fb) (full-in S L w c fc) i j
-            ∙ sym (sum-over-below S _ _ w (λ l hl. ap (λ t. S .product (full S w a i l) t) (full-joined b c l j hl hj)))
-            ∙ sym (entry-full S w a (joined S w b c) i j hi hj))
+        entry-full S w (joined S w a b) c i j hi hj
+        ∙ sum-over-below S _ _ w (λ l hl. ap (λ t. S .product t (full S w c l j)) (full-joined a b i l hi hl))
+        ∙ times-assoc (full S w a) (full S w b) (full S w c) (full-in S L w a fa) (full-in S L w b fb) (full-in S L w c fc) i j
+        ∙ sym (sum-over-below S _ _ w (λ l hl. ap (λ t. S .product (full S w a i l) t) (full-joined b c l j hl hj)))
+        ∙ sym (entry-full S w a (joined S w b c) i j hi hj))
 
     full-unit : (i j : ℕ) → i < w → j < w → full S w (unit-matrix S w) i j ≡ delta S i j
     full-unit i j hi hj = full-is S w (unit-matrix S w) i j hi hj ∙ at-table w (delta S) i j small hi hj
@@ -118,21 +118,21 @@ module _ (S : SemiringOps) (L : SemiringLaws S) (w : ℕ) where
     joined-unit-left a fa =
         table-cong w (entry S w (unit-matrix S w) a) (at a)
         (λ i j hi hj.
-          entry-full S w (unit-matrix S w) a i j hi hj
-            ∙ sum-over-below S _ _ w (λ l hl. ap (λ t. S .product t (full S w a l j)) (full-unit i l hi hl))
-            ∙ times-one-left (full S w a) (full-in S L w a fa) i j hi
-            ∙ full-is S w a i j hi hj)
-          ∙ sym (fit-is S w a fa)
+        entry-full S w (unit-matrix S w) a i j hi hj
+        ∙ sum-over-below S _ _ w (λ l hl. ap (λ t. S .product t (full S w a l j)) (full-unit i l hi hl))
+        ∙ times-one-left (full S w a) (full-in S L w a fa) i j hi
+        ∙ full-is S w a i j hi hj)
+        ∙ sym (fit-is S w a fa)
 
     pub joined-unit-right : (a : Matrix) → Fit S w a → joined S w a (unit-matrix S w) ≡ a
     joined-unit-right a fa =
         table-cong w (entry S w a (unit-matrix S w)) (at a)
         (λ i j hi hj.
-          entry-full S w a (unit-matrix S w) i j hi hj
-            ∙ sum-over-below S _ _ w (λ l hl. ap (λ t. S .product (full S w a i l) t) (full-unit l j hl hj))
-            ∙ times-one-right (full S w a) (full-in S L w a fa) i j hj
-            ∙ full-is S w a i j hi hj)
-          ∙ sym (fit-is S w a fa)
+        entry-full S w a (unit-matrix S w) i j hi hj
+        ∙ sum-over-below S _ _ w (λ l hl. ap (λ t. S .product (full S w a i l) t) (full-unit l j hl hj))
+        ∙ times-one-right (full S w a) (full-in S L w a fa) i j hj
+        ∙ full-is S w a i j hi hj)
+        ∙ sym (fit-is S w a fa)
 
 -- a station's matrix is fit
 pub station-fit : (S : SemiringOps) (L : SemiringLaws S) (k : ℕ) → k ≤ 4 → (u d : ℕ) → In S u → In S d → Fit S (2 * k + 1) (station-matrix S k u d)

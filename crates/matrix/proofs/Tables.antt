@@ -26,7 +26,7 @@ pub at-table-used : (w : ℕ) (f : ℕ → ℕ → ℕ) (i j : ℕ) → i < 9 �
 unfolding table
 at-table-used w f i j hi hj =
     getD-map-counting (λ p. used w f (p / 9) (p % 9)) 0 81 (9 * i + j) (9 * i + j) 0 (omega arith) (omega arith)
-      ∙ ap₂ (used w f) (omega arith) (omega arith)
+    ∙ ap₂ (used w f) (omega arith) (omega arith)
 
 pub at-table : (w : ℕ) (f : ℕ → ℕ → ℕ) (i j : ℕ) → w ≤ 9 → i < w → j < w → at (table w f) i j ≡ f i j
 at-table w f i j hw hi hj = at-table-used w f i j (omega arith) (omega arith) ∙ cond-true (ltb i w && ltb j w) (f i j) 0 (used-test w i j hi hj)
@@ -41,7 +41,7 @@ unfolding table
 is-table w f m e h =
     ap of-codes
     (fill-by-all (λ p. used w f (p / 9) (p % 9)) (m .codes) 81 0 e
-      (λ p lt. let there : p ≡ 9 * (p / 9) + p % 9 = omega arith in ap (λ q. getD (m .codes) q 0) there ∙ h (p / 9) (p % 9) (omega arith) (omega arith)))
+    (λ p lt. let there : p ≡ 9 * (p / 9) + p % 9 = omega arith in ap (λ q. getD (m .codes) q 0) there ∙ h (p / 9) (p % 9) (omega arith) (omega arith)))
 
 pub table-cong : (w : ℕ) (f g : ℕ → ℕ → ℕ) → ((i j : ℕ) → i < w → j < w → f i j ≡ g i j) → table w f ≡ table w g
 table-cong w f g h =
@@ -67,9 +67,9 @@ filled-all w f m p filled end = ap of-codes (fill-by-all (λ q. used w f (q / 9)
 abbrev pub Rowed : ℕ → (ℕ → ℕ → ℕ) → Matrix → ℕ → Type 0
 Rowed w f m n =
     (length (m .codes) ≡ 81)
-      × ((q r : ℕ) → q < n → r < w → at m q r ≡ f q r)
-      × ((q r : ℕ) → q < n → w ≤ r → r < 9 → at m q r ≡ 0)
-      × ((p : ℕ) → 9 * n ≤ p → p < 81 → getD (m .codes) p 0 ≡ 0)
+    × ((q r : ℕ) → q < n → r < w → at m q r ≡ f q r)
+    × ((q r : ℕ) → q < n → w ≤ r → r < 9 → at m q r ≡ 0)
+    × ((p : ℕ) → 9 * n ≤ p → p < 81 → getD (m .codes) p 0 ≡ 0)
 
 pub rowed-none : (w : ℕ) (f : ℕ → ℕ → ℕ) → Rowed w f (of-codes (replicate 81 0)) 0
 rowed-none w f = (refl, λ q r h k. absurd (omega arith), λ q r h k. absurd (omega arith), λ p h k. getD-replicate 81 p 0 0 k)

@@ -65,7 +65,11 @@ pub fn station<S: Semiring>(semiring: &S, threshold: Threshold, up: u64, down: u
 fn unit_code<S: Semiring>(semiring: &S, i: usize, j: usize) -> u64
     ensures { λ r. ⌜ r ≡ delta (S·Semiring .ops (now (semiring .entry))) i j ⌝ }
 {
-    if i == j { semiring.one() } else { semiring.zero() }
+    if i == j {
+        semiring.one()
+    } else {
+        semiring.zero()
+    }
 }
 
 // The unit matrix.

@@ -10,7 +10,13 @@ use crate::threshold::Threshold;
 use semiring::Semiring;
 
 // The sum of the codes at start, start + stride and so on: count of them.
-fn strided_sum<S: Semiring>(semiring: &S, m: &Matrix, start: usize, stride: usize, count: usize) -> u64
+fn strided_sum<S: Semiring>(
+    semiring: &S,
+    m: &Matrix,
+    start: usize,
+    stride: usize,
+    count: usize,
+) -> u64
     requires short { ⌜ count ≤ 5 ⌝ }
     requires wide { ⌜ stride ≤ 10 ⌝ }
     requires low { ⌜ start < 9 ⌝ }

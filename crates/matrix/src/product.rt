@@ -8,7 +8,13 @@ use crate::threshold::Threshold;
 use semiring::Semiring;
 
 // Adds x times row l of b to the first W codes of a row.
-fn add_row<S: Semiring, const W: usize>(semiring: &S, x: u64, b: &Matrix, l: usize, row: &mut [u64; 9])
+fn add_row<S: Semiring, const W: usize>(
+    semiring: &S,
+    x: u64,
+    b: &Matrix,
+    l: usize,
+    row: &mut [u64; 9],
+)
     requires width { ⌜ W ≤ 9 ⌝ }
     requires line { ⌜ l < 9 ⌝ }
     ensures { λ _. ⌜ ((q : ℕ) → q < W → getD (now (row .exit)) q 0 ≡ S·Semiring .ops (now (semiring .entry)) .sum (getD (now (row .entry)) q 0) (S·Semiring .ops (now (semiring .entry)) .product x (at (now (b .entry)) l q))) ⌝ }
@@ -20,7 +26,12 @@ fn add_row<S: Semiring, const W: usize>(semiring: &S, x: u64, b: &Matrix, l: usi
 }
 
 // The first W codes of row i of the product. A code of a that is zero or no member adds nothing, so it is passed over.
-fn row_product<S: Semiring, const W: usize>(semiring: &S, a: &Matrix, b: &Matrix, i: usize) -> [u64; 9]
+fn row_product<S: Semiring, const W: usize>(
+    semiring: &S,
+    a: &Matrix,
+    b: &Matrix,
+    i: usize,
+) -> [u64; 9]
     requires width { ⌜ W ≤ 9 ⌝ }
     requires line { ⌜ i < 9 ⌝ }
     ensures { λ r. ⌜ ((q : ℕ) → q < W → getD r q 0 ≡ entry (S·Semiring .ops (now (semiring .entry))) W (now (a .entry)) (now (b .entry)) i q) ⌝ }

@@ -36,22 +36,22 @@ module _ (member : ℕ → Bool) (reduce : ℕ → ℕ) (R : Reduction member re
   once-left : (f h : ℕ → ℕ → ℕ) (x y z : ℕ) → member x ≡ true → member y ≡ true → member z ≡ true → ((a : ℕ) → reduce (f (reduce a) z) ≡ reduce (f a z)) → on-members f (on-members h x y) z ≡ reduce (f (h x y) z)
   once-left f h x y z hx hy hz early =
       ap (λ t. on-members f t z) (guarded-is h x y hx hy)
-        ∙ guarded-is f (reduce (h x y)) z (R .reduced-in (h x y)) hz
-        ∙ early (h x y)
+      ∙ guarded-is f (reduce (h x y)) z (R .reduced-in (h x y)) hz
+      ∙ early (h x y)
 
   once-right : (f h : ℕ → ℕ → ℕ) (x y z : ℕ) → member x ≡ true → member y ≡ true → member z ≡ true → ((a : ℕ) → reduce (f x (reduce a)) ≡ reduce (f x a)) → on-members f x (on-members h y z) ≡ reduce (f x (h y z))
   once-right f h x y z hx hy hz late =
       ap (λ t. on-members f x t) (guarded-is h y z hy hz)
-        ∙ guarded-is f x (reduce (h y z)) hx (R .reduced-in (h y z))
-        ∙ late (h y z)
+      ∙ guarded-is f x (reduce (h y z)) hx (R .reduced-in (h y z))
+      ∙ late (h y z)
 
   -- the sum of two products
   both : (a b c d : ℕ) → member a ≡ true → member b ≡ true → member c ≡ true → member d ≡ true → on-members _+_ (on-members _*_ a b) (on-members _*_ c d) ≡ reduce (a * b + c * d)
   both a b c d ha hb hc hd =
       ap₂ (on-members _+_) (guarded-is _*_ a b ha hb) (guarded-is _*_ c d hc hd)
-        ∙ guarded-is _+_ (reduce (a * b)) (reduce (c * d)) (R .reduced-in (a * b)) (R .reduced-in (c * d))
-        ∙ R .before-sum (a * b) (reduce (c * d))
-        ∙ after-sum (c * d) (a * b)
+      ∙ guarded-is _+_ (reduce (a * b)) (reduce (c * d)) (R .reduced-in (a * b)) (R .reduced-in (c * d))
+      ∙ R .before-sum (a * b) (reduce (c * d))
+      ∙ after-sum (c * d) (a * b)
 
   -- an operation that gives x back
   gives : (op : ℕ → ℕ → ℕ) (a b x : ℕ) → member a ≡ true → member b ≡ true → member x ≡ true → op a b ≡ x → on-members op a b ≡ x
@@ -64,19 +64,19 @@ module _ (member : ℕ → Bool) (reduce : ℕ → ℕ) (R : Reduction member re
     sum-in = in-members _+_;
     product-in = in-members _*_;
     sum-assoc = λ x y z hx hy hz.
-      once-left _+_ _+_ x y z hx hy hz (λ a. R .before-sum a z) ∙ ap reduce (add-assoc x y z) ∙ sym (once-right _+_ _+_ x y z hx hy hz (λ a. after-sum a x));
+        once-left _+_ _+_ x y z hx hy hz (λ a. R .before-sum a z) ∙ ap reduce (add-assoc x y z) ∙ sym (once-right _+_ _+_ x y z hx hy hz (λ a. after-sum a x));
     sum-comm = λ x y hx hy. guarded-is _+_ x y hx hy ∙ ap reduce (add-comm x y) ∙ sym (guarded-is _+_ y x hy hx);
     sum-zero = λ x hx. gives _+_ 0 x x (R .zero-in) hx hx (zero-add x);
     product-assoc = λ x y z hx hy hz.
-      once-left _*_ _*_ x y z hx hy hz (λ a. R .before-product a z) ∙ ap reduce (mul-assoc x y z) ∙ sym (once-right _*_ _*_ x y z hx hy hz (λ a. after-product a x));
+        once-left _*_ _*_ x y z hx hy hz (λ a. R .before-product a z) ∙ ap reduce (mul-assoc x y z) ∙ sym (once-right _*_ _*_ x y z hx hy hz (λ a. after-product a x));
     one-left = λ x hx. gives _*_ 1 x x (R .one-in) hx hx (one-mul x);
     one-right = λ x hx. gives _*_ x 1 x hx (R .one-in) hx (mul-one x);
     zero-left = λ x hx. gives _*_ 0 x 0 (R .zero-in) hx (R .zero-in) (zero-mul x);
     zero-right = λ x hx. gives _*_ x 0 0 hx (R .zero-in) (R .zero-in) (mul-zero x);
     product-sum = λ x y z hx hy hz.
-      once-right _*_ _+_ x y z hx hy hz (λ a. after-product a x) ∙ ap reduce (mul-add x y z) ∙ sym (both x y x z hx hy hx hz);
+        once-right _*_ _+_ x y z hx hy hz (λ a. after-product a x) ∙ ap reduce (mul-add x y z) ∙ sym (both x y x z hx hy hx hz);
     sum-product = λ x y z hx hy hz.
-      once-left _*_ _+_ x y z hx hy hz (λ a. R .before-product a z) ∙ ap reduce (add-mul x y z) ∙ sym (both x z y z hx hz hy hz);
+        once-left _*_ _+_ x y z hx hy hz (λ a. R .before-product a z) ∙ ap reduce (add-mul x y z) ∙ sym (both x z y z hx hz hy hz);
     sum-out = λ x y out. cond-false (member x && member y) (reduce (x + y)) 0 out;
     product-out = λ x y out. cond-false (member x && member y) (reduce (x * y)) 0 out;
   }

@@ -1,7 +1,7 @@
 // Residues by a modulus m: 0 to m - 1.
 ghost use Rattle.semiring.specs.Models.{residues};
-use crate::modulus::Residues;
 use crate::Semiring;
+use crate::modulus::Residues;
 
 pub impl Semiring for Residues as ResiduesSemiring {
     ghost ops = { λ s. residues (s .modulus) };

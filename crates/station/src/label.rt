@@ -60,7 +60,12 @@ impl Station {
         if !is_legal(label) {
             return Err(Refusal::BadLabel);
         }
-        Ok(Station { label: padded_label(label), status, up, down })
+        Ok(Station {
+            label: padded_label(label),
+            status,
+            up,
+            down,
+        })
     }
 
     // The label's bytes.

@@ -9,7 +9,7 @@ loop-station-again g c =
     let o = g .K·Kind .ops (c .args .kind .now) in (
       omega arith,
       fold-more (λ e x. o .join e (o .single x)) (o .empty) (c .args .stations .now) (c .loop-station .station-index) blank (c .loop-station .element) (c .join-element .result) (c .loop-station-test .taken) (c .loop-station .inv .1)
-      (c .join-element .ensures ∙ ap (o .join (c .loop-station .element)) (c .single-next .ensures)),
+          (c .join-element .ensures ∙ ap (o .join (c .loop-station .element)) (c .single-next .ensures)),
     )
 
 pub returns : need.returns

@@ -15,13 +15,13 @@ loop-l-again g c =
       | then-x-zero·then-is-member w ↦ (
         ap length (w .row-is) ∙ w .add-row .array-long,
         λ q h.
-          turn-added S L a b (c .args .i) q (c .loop-l .l) (getD (c .loop-l .row) q 0) x (c .at-x .ensures) (c .loop-l .inv .1 q h) (getD (c .if-x-zero .row) q 0)
-          (ap (λ m. getD m q 0) (w .row-is) ∙ w .add-row .ensures q h),
+            turn-added S L a b (c .args .i) q (c .loop-l .l) (getD (c .loop-l .row) q 0) x (c .at-x .ensures) (c .loop-l .inv .1 q h) (getD (c .if-x-zero .row) q 0)
+            (ap (λ m. getD m q 0) (w .row-is) ∙ w .add-row .ensures q h),
       )
       | else-x-zero w ↦ (
         ap length (w .row-is) ∙ c .loop-l .inv .0,
         λ q h.
-          ap (λ m. getD m q 0) (w .row-is)
+            ap (λ m. getD m q 0) (w .row-is)
             ∙ elim (w .else-x-zero .came) [
               | else-x-zero·by·then-x-zero·else-is-member w′ ↦ turn-out S L a b (c .args .i) q (c .loop-l .l) (getD (c .loop-l .row) q 0) x (c .at-x .ensures) (c .loop-l .inv .1 q h) (sym (w′ .if-is-member .ensures tt))
               | else-x-zero·by·else-x-zero w′ ↦ turn-zero S L a b (c .args .i) q (c .loop-l .l) (getD (c .loop-l .row) q 0) x (c .at-x .ensures) (c .loop-l .inv .1 q h) (w′ .if-x-zero .left ∙ c .zero-zero .ensures)

@@ -16,5 +16,5 @@ returns-then-bytes-le-ROOM c =
     let w = c .label-len .ensures .within in
     let long : n ≡ length (label-of bs) = omega (arith, length-take n bs, ap length (c .label-len .ensures .label)) in
     ap (λ t. eqb t (length bs)) long
-      ∙ label-whole bs
-      ∙ ap (λ t. t && printables bs) (sym (le-leb (length bs) 24 (c .if-bytes-le-ROOM .taken)))
+    ∙ label-whole bs
+    ∙ ap (λ t. t && printables bs) (sym (le-leb (length bs) 24 (c .if-bytes-le-ROOM .taken)))

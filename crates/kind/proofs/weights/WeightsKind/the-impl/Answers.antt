@@ -33,8 +33,8 @@ lawful-law g w =
       joining = record {
         cell-back = λ a. refl;
         single-fit = λ x t.
-          let p = and-parts (S .member (x .up)) (S .member (x .down)) t in
-          station-fit S L k high (up-as S (x .status) (x .up)) (down-as S (x .status) (x .down)) (up-in S L (x .status) (x .up) (p .0)) (down-in S L (x .status) (x .down) (p .1));
+            let p = and-parts (S .member (x .up)) (S .member (x .down)) t in
+            station-fit S L k high (up-as S (x .status) (x .up)) (down-as S (x .status) (x .down)) (up-in S L (x .status) (x .up) (p .0)) (down-in S L (x .status) (x .down) (p .1));
         join-fit = joined-fit S L wide (omega arith);
         assoc = joined-assoc S L wide (omega arith);
       };
