@@ -1,6 +1,7 @@
 // The kind of runs: how many stations in a row are down.
+ghost use mathlib.Core.Bool.{cond};
 ghost use mathlib.Core.Path.{_≡_};
-ghost use Rattle.kind.specs.Runs.{runs-kind, is-down, goes-on, longest-of, seam, joined-runs, Joined};
+ghost use Rattle.kind.specs.Runs.{runs-kind, is-down, summary, goes-on, longest-of, seam, joined-runs, Joined};
 ghost use Rattle.kind.specs.Sound.{sound};
 use crate::Kind;
 use crate::figures::Figures;
@@ -21,6 +22,25 @@ fn is_down(status: Status) -> bool
     }
 }
 
+// How many of one station are down.
+fn run_of_one(down: bool) -> u32
+    ensures { λ r. ⌜ r ≡ cond down 1 0 ⌝ }
+{
+    if down { 1 } else { 0 }
+}
+
+// The summary whose three runs are the same.
+fn even_run(all: bool, n: u32) -> RunSummary
+    ensures { λ r. ⌜ r ≡ summary all n n n ⌝ }
+{
+    RunSummary {
+        all,
+        first: n,
+        last: n,
+        longest: n,
+    }
+}
+
 // A run that `more` carries on where all of its stretch is down.
 fn carried_on(all: bool, run: u32, more: u32) -> u32
     ensures { λ r. ⌜ r ≡ goes-on all run more ⌝ }
@@ -28,8 +48,22 @@ fn carried_on(all: bool, run: u32, more: u32) -> u32
     if all { run.saturating_add(more) } else { run }
 }
 
-// The longest run of two stretches, and of the run across their border.
-fn longest(left: &RunSummary, right: &RunSummary) -> u32
+// The run at the front of two stretches.
+fn first_run(left: &RunSummary, right: &RunSummary) -> u32
+    ensures { λ r. ⌜ r ≡ goes-on (now (left .entry) .all) (now (left .entry) .first) (now (right .entry) .first) ⌝ }
+{
+    carried_on(left.all, left.first, right.first)
+}
+
+// The run at the end of two stretches.
+fn last_run(left: &RunSummary, right: &RunSummary) -> u32
+    ensures { λ r. ⌜ r ≡ goes-on (now (right .entry) .all) (now (right .entry) .last) (now (left .entry) .last) ⌝ }
+{
+    carried_on(right.all, right.last, left.last)
+}
+
+// The longest run of two stretches, the one across their border included.
+fn longest_run(left: &RunSummary, right: &RunSummary) -> u32
     ensures { λ r. ⌜ r ≡ longest-of (now (left .entry) .longest) (now (right .entry) .longest) (now (left .entry) .last) (now (right .entry) .first) ⌝ }
 {
     let across = left.last.saturating_add(right.first);
@@ -37,13 +71,13 @@ fn longest(left: &RunSummary, right: &RunSummary) -> u32
 }
 
 // The run that crosses from the last station to the first; where all are down, each counts once.
-fn seam_run(summary: &RunSummary) -> u32
-    ensures { λ r. ⌜ r ≡ seam (now (summary .entry)) ⌝ }
+fn seam_run(stretch: &RunSummary) -> u32
+    ensures { λ r. ⌜ r ≡ seam (now (stretch .entry)) ⌝ }
 {
-    if summary.all {
-        summary.first
+    if stretch.all {
+        stretch.first
     } else {
-        summary.last.saturating_add(summary.first)
+        stretch.last.saturating_add(stretch.first)
     }
 }
 
@@ -71,22 +105,11 @@ pub impl Kind for Runs as RunsKind {
 
     fn single(&self, station: &Station) -> RunSummary {
         let all = is_down(station.status);
-        let n = if all { 1 } else { 0 };
-        RunSummary {
-            all,
-            first: n,
-            last: n,
-            longest: n,
-        }
+        even_run(all, run_of_one(all))
     }
 
     fn empty(&self) -> RunSummary {
-        RunSummary {
-            all: true,
-            first: 0,
-            last: 0,
-            longest: 0,
-        }
+        even_run(true, 0)
     }
 
     fn join(&self, left: &RunSummary, right: &RunSummary) -> RunSummary
@@ -95,9 +118,9 @@ pub impl Kind for Runs as RunsKind {
     {
         RunSummary {
             all: left.all & right.all,
-            first: carried_on(left.all, left.first, right.first),
-            last: carried_on(right.all, right.last, left.last),
-            longest: longest(left, right),
+            first: first_run(left, right),
+            last: last_run(left, right),
+            longest: longest_run(left, right),
         }
     }
 

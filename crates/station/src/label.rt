@@ -3,10 +3,11 @@ ghost use Prim.Native.Nat.{_≤_};
 ghost use mathlib.Core.Bool.{not};
 ghost use mathlib.Core.List.{[], _∷_};
 ghost use mathlib.Core.Path.{_≡_};
+ghost use lib.Dec.{leb};
 ghost use lib.ListN.{length, take};
 ghost use Rattle.std.specs.Vec.{made};
 ghost use Rattle.refusal.specs.Refusals.{told, first, answered};
-ghost use Rattle.station.specs.Labels.{printable, legal, padded, label-of, station-with};
+ghost use Rattle.station.specs.Labels.{printable, printables, legal, padded, label-of, station-with};
 use crate::record::Station;
 use crate::record::Status;
 use refusal::Refusal;
@@ -33,11 +34,24 @@ fn label_len(bytes: &[u8]) -> usize
     bytes.len()
 }
 
+// Whether the bytes have room in a record.
+fn is_short(bytes: &[u8]) -> bool
+    ensures { λ r. ⌜ r ≡ leb (length (now (bytes .entry))) 24 ⌝ }
+{
+    bytes.len() <= ROOM
+}
+
+fn all_printable(bytes: &[u8]) -> bool
+    ensures { λ r. ⌜ r ≡ printables (now (bytes .entry)) ⌝ }
+{
+    label_len(bytes) == bytes.len()
+}
+
 // Whether the bytes are a label.
 fn is_legal(bytes: &[u8]) -> bool
     ensures { λ r. ⌜ r ≡ legal (now (bytes .entry)) ⌝ }
 {
-    bytes.len() <= ROOM && label_len(bytes) == bytes.len()
+    is_short(bytes) && all_printable(bytes)
 }
 
 // The label in a record's 24 bytes, with zeros behind it.
@@ -51,6 +65,19 @@ fn padded_label(bytes: &[u8]) -> [u8; 24]
     room
 }
 
+// The record with a label that was tested.
+fn with_label(label: &[u8], status: Status, up: u64, down: u64) -> Station
+    requires { ⌜ length (now label) ≤ 24 ⌝ }
+    ensures { λ r. ⌜ r ≡ station-with (now (label .entry)) status up down ⌝ }
+{
+    Station {
+        label: padded_label(label),
+        status,
+        up,
+        down,
+    }
+}
+
 impl Station {
     // A record with the label, which is tested before anything is copied.
     pub fn new(label: &[u8], status: Status, up: u64, down: u64) -> Result<Station, Refusal>
@@ -60,12 +87,7 @@ impl Station {
         if !is_legal(label) {
             return Err(Refusal::BadLabel);
         }
-        Ok(Station {
-            label: padded_label(label),
-            status,
-            up,
-            down,
-        })
+        Ok(with_label(label, status, up, down))
     }
 
     // The label's bytes.

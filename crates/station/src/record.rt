@@ -1,4 +1,4 @@
-// The station record: plain, so that no record can hold another's promise.
+// The station record. It is plain: whatever its bytes are, a label is read off them.
 #[derive(Clone, Copy, PartialEq, Eq, Debug)]
 pub enum Status {
     Judged,

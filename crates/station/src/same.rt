@@ -1,8 +1,16 @@
 // When two records are the same: by label, status and codes, whatever stands behind the labels.
+ghost use mathlib.Core.Path.{_≡_};
 ghost use Rattle.std.specs.Orderings.{Decides};
 ghost use Rattle.station.specs.Same.{Same};
 use crate::record::Station;
 use crate::record::StatusPartialEq;
+
+// Whether both codes are equal.
+fn same_codes(a: &Station, b: &Station) -> bool
+    ensures { λ r. ⌜ Decides r ((now (a .entry) .up ≡ now (b .entry) .up) × (now (a .entry) .down ≡ now (b .entry) .down)) ⌝ }
+{
+    a.up == b.up && a.down == b.down
+}
 
 pub impl PartialEq<Station> for Station as StationPartialEq {
     ghost equals = { λ a b r. Decides r (Same a b) };
@@ -10,7 +18,6 @@ pub impl PartialEq<Station> for Station as StationPartialEq {
     fn eq(&self, other: &Station) -> bool {
         let label = self.label() == other.label();
         let status = self.status == other.status;
-        let codes = self.up == other.up && self.down == other.down;
-        label & status & codes
+        label & status & same_codes(self, other)
     }
 }

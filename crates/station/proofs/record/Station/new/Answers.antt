@@ -1,6 +1,6 @@
 use mathlib.Core.Path.{_≡_, sym, ap, _∙_}
 use mathlib.Core.Bool.{Bool, true, not}
-use mathlib.Core.List.{List, [], _∷_}
+use mathlib.Core.List.{[], _∷_}
 use Prim.Native.Nat.{ℕ, _-_}
 use lib.Dec.{leb}
 use lib.ListN.{length}
@@ -17,9 +17,9 @@ pub returns : need.returns
 returns c =
     let bs = c .args .label .now in
     let ok : legal bs ≡ true = sym (c .if-not-is-legal .ensures tt) in
-    let put : List ℕ → Result Station ℕ = λ l. Ok (record { label = l; status = c .args .status; up = c .args .up; down = c .args .down }) in
+    let made : Station → Result Station ℕ = Ok in
     let tried : Bool → Result Station ℕ = λ t. answered (first ((not t, 4) ∷ [])) (station-with bs (c .args .status) (c .args .up) (c .args .down)) in
     record {
-      value = ap put (c .padded-label .ensures) ∙ ap tried (sym ok);
-      labelled = ap label-of (c .padded-label .ensures) ∙ label-put bs (24 - length bs) (and-parts (leb (length bs) 24) (printables bs) ok .1);
+      value = ap made (c .with-label .ensures) ∙ ap tried (sym ok);
+      labelled = ap (λ (s : Station). label-of (s .label)) (c .with-label .ensures) ∙ label-put bs (24 - length bs) (and-parts (leb (length bs) 24) (printables bs) ok .1);
     }
