@@ -5,11 +5,11 @@ ghost use Rattle.station.specs.Same.{Same};
 use crate::record::Station;
 use crate::record::StatusPartialEq;
 
-// Whether both codes are equal.
-fn same_codes(a: &Station, b: &Station) -> bool
-    ensures { λ r. ⌜ Decides r ((now (a .entry) .up ≡ now (b .entry) .up) × (now (a .entry) .down ≡ now (b .entry) .down)) ⌝ }
+// Whether status and codes are equal.
+fn same_values(a: &Station, b: &Station) -> bool
+    ensures { λ r. ⌜ Decides r ((now (a .entry) .status ≡ now (b .entry) .status) × ((now (a .entry) .up ≡ now (b .entry) .up) × (now (a .entry) .down ≡ now (b .entry) .down))) ⌝ }
 {
-    a.up == b.up && a.down == b.down
+    a.status == b.status && a.up == b.up && a.down == b.down
 }
 
 pub impl PartialEq<Station> for Station as StationPartialEq {
@@ -17,7 +17,6 @@ pub impl PartialEq<Station> for Station as StationPartialEq {
 
     fn eq(&self, other: &Station) -> bool {
         let label = self.label() == other.label();
-        let status = self.status == other.status;
-        label & status & same_codes(self, other)
+        label & same_values(self, other)
     }
 }
