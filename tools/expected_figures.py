@@ -104,19 +104,16 @@ def main():
     print("The same with place 11 marked up")
     ring_main(MAIN[:10] + [("Reservoir", "up", 0, 0)] + MAIN[11:])
     print("Example rows: failing and working, or longest and front run")
-    weights_row("counts, k 2, 1 station of 1 and 1", counts(), 2, [judged(1, 1)])
-    weights_row("counts, k 1, 1 station of 1 and 1", counts(), 1, [judged(1, 1)])
-    weights_row("counts, k 2, 4 stations of 1 and 1", counts(), 2, [judged(1, 1)] * 4)
-    weights_row("counts, k 3, 5 stations of 1 and 1", counts(), 3, [judged(1, 1)] * 5)
-    weights_row("counts, k 3, places 2 to 4 of these", counts(), 3, [judged(1, 1)] * 3)
-    weights_row("counts, k 3, 2 stations of 1 and 1", counts(), 3, [judged(1, 1)] * 2)
-    weights_row("counts, k 1, 2 stations of 1 and 1000000000", counts(), 1, [judged(1, 1_000_000_000)] * 2)
-    weights_row("residues by 7, k 2, 4 stations of 1 and 1", residues(7), 2, [judged(1, 1)] * 4)
+    for k, n in (2, 1), (1, 1), (2, 4), (3, 5), (3, 2):
+        weights_row(f"counts, k {k}, n {n}, each 1 and 1", counts(), k, [judged(1, 1)] * n)
+    weights_row("counts, k 3, places 2 to 4 of 5, each 1 and 1", counts(), 3, ([judged(1, 1)] * 5)[1:4])
+    weights_row("counts, k 1, n 2, each 1 and 1000000000", counts(), 1, [judged(1, 1_000_000_000)] * 2)
+    weights_row("residues by 7, k 2, n 4, each 1 and 1", residues(7), 2, [judged(1, 1)] * 4)
     four = [judged(0, down) for down in (2, 9, 4, 1)]
-    weights_row("costs, k 2, 4 stations of 0 and 2, 9, 4, 1", costs(), 2, four)
-    weights_row("costs, k 2, these with place 1 up", costs(), 2, [("", "up", 0, 2)] + four[1:])
+    weights_row("costs, k 2, n 4, up 0, down 2, 9, 4, 1", costs(), 2, four)
+    weights_row("costs, k 2, the same with place 1 up", costs(), 2, [("", "up", 0, 2)] + four[1:])
     line = [("", status, 0, 0) for status in ("down", "down", "up", "down")]
-    both("runs, down, down, up, down", lambda ring: runs(line, ring), 4, 1)
+    both("runs, n 4, down, down, up, down", lambda ring: runs(line, ring), 4, 1)
 
 
 main()

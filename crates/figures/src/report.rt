@@ -8,7 +8,7 @@ use station::record::Station;
 use std::io;
 
 // Place, label, status and codes of each station.
-pub fn stations(rt: &LibcRuntime, list: &[Station]) -> io::Result<()> {
+pub(crate) fn stations(rt: &LibcRuntime, list: &[Station]) -> io::Result<()> {
     for (i, station) in list.iter().enumerate() {
         rt.print(format_args!("{:>2} ", i.saturating_add(1)))?;
         rt.write_all(station.label())?;
@@ -32,8 +32,7 @@ fn figures(rt: &LibcRuntime, what: &str, answer: Result<Figures, Refusal>) -> io
 }
 
 // The stations' figures as a window and as a ring.
-pub fn both<K: Kind>(rt: &LibcRuntime, name: &str, kind: &K, list: &[Station]) -> io::Result<()> {
-    println!(rt, "{name}")?;
+pub(crate) fn both<K: Kind>(rt: &LibcRuntime, kind: &K, list: &[Station]) -> io::Result<()> {
     figures(rt, "window", window_of(kind, list))?;
     figures(rt, "ring", ring_of(kind, list))
 }

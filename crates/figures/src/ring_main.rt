@@ -52,7 +52,7 @@ fn figures(rt: &LibcRuntime, list: &[Station; 12]) -> Result<(), Trouble> {
     Ok(())
 }
 
-pub fn show(rt: &LibcRuntime) -> Result<(), Trouble> {
+pub(crate) fn show(rt: &LibcRuntime) -> Result<(), Trouble> {
     let mut list = stations()?;
     println!(rt, "Ring main, broken by 4 neighbours down in a row")?;
     figures(rt, &list)?;

@@ -22,73 +22,37 @@ fn judged(up: u64, down: u64) -> Result<Station, Refusal> {
 }
 
 fn counts(rt: &LibcRuntime) -> Result<(), Trouble> {
-    let one = judged(1, 1)?;
-    let five = [one; 5];
+    let five = [judged(1, 1)?; 5];
+    for (k, n) in [(2, 1), (1, 1), (2, 4), (3, 5), (3, 2)] {
+        println!(rt, "counts, k {k}, n {n}, each 1 and 1")?;
+        report::both(rt, &Weights::new(Counts, k)?, &five[0..n.min(5)])?;
+    }
+    println!(rt, "counts, k 3, places 2 to 4 of 5, each 1 and 1")?;
+    report::both(rt, &Weights::new(Counts, 3)?, &five[1..4])?;
+    println!(rt, "counts, k 1, n 2, each 1 and 1000000000")?;
     report::both(
         rt,
-        "counts, k 2, 1 station of 1 and 1",
-        &Weights::new(Counts, 2)?,
-        &five[0..1],
-    )?;
-    report::both(
-        rt,
-        "counts, k 1, 1 station of 1 and 1",
         &Weights::new(Counts, 1)?,
-        &five[0..1],
-    )?;
-    report::both(
-        rt,
-        "counts, k 2, 4 stations of 1 and 1",
-        &Weights::new(Counts, 2)?,
-        &five[0..4],
-    )?;
-    let three = Weights::new(Counts, 3)?;
-    report::both(rt, "counts, k 3, 5 stations of 1 and 1", &three, &five)?;
-    report::both(
-        rt,
-        "counts, k 3, places 2 to 4 of these",
-        &three,
-        &five[1..4],
-    )?;
-    report::both(
-        rt,
-        "counts, k 3, 2 stations of 1 and 1",
-        &three,
-        &five[0..2],
-    )?;
-    let full = [judged(1, 1_000_000_000)?; 2];
-    report::both(
-        rt,
-        "counts, k 1, 2 stations of 1 and 1000000000",
-        &Weights::new(Counts, 1)?,
-        &full,
+        &[judged(1, 1_000_000_000)?; 2],
     )?;
     Ok(())
 }
 
 fn residues(rt: &LibcRuntime) -> Result<(), Trouble> {
-    let four = [judged(1, 1)?; 4];
     let seven = Residues::new(7)?;
-    report::both(
-        rt,
-        "residues by 7, k 2, 4 stations of 1 and 1",
-        &Weights::new(seven, 2)?,
-        &four,
-    )?;
+    println!(rt, "residues by 7, k 2, n 4, each 1 and 1")?;
+    report::both(rt, &Weights::new(seven, 2)?, &[judged(1, 1)?; 4])?;
     Ok(())
 }
 
 fn costs(rt: &LibcRuntime) -> Result<(), Trouble> {
     let mut four = [judged(0, 2)?, judged(0, 9)?, judged(0, 4)?, judged(0, 1)?];
     let two = Weights::new(Costs, 2)?;
-    report::both(
-        rt,
-        "costs, k 2, 4 stations of 0 and 2, 9, 4, 1",
-        &two,
-        &four,
-    )?;
+    println!(rt, "costs, k 2, n 4, up 0, down 2, 9, 4, 1")?;
+    report::both(rt, &two, &four)?;
     four[0].status = Status::Up;
-    report::both(rt, "costs, k 2, these with place 1 up", &two, &four)?;
+    println!(rt, "costs, k 2, the same with place 1 up")?;
+    report::both(rt, &two, &four)?;
     Ok(())
 }
 
@@ -98,11 +62,12 @@ fn runs(rt: &LibcRuntime) -> Result<(), Trouble> {
     four[1].status = Status::Down;
     four[2].status = Status::Up;
     four[3].status = Status::Down;
-    report::both(rt, "runs, down, down, up, down", &Runs, &four)?;
+    println!(rt, "runs, n 4, down, down, up, down")?;
+    report::both(rt, &Runs, &four)?;
     Ok(())
 }
 
-pub fn show(rt: &LibcRuntime) -> Result<(), Trouble> {
+pub(crate) fn show(rt: &LibcRuntime) -> Result<(), Trouble> {
     println!(
         rt,
         "Example rows: failing and working, or longest and front run"
