@@ -54,7 +54,8 @@ fn figures(rt: &LibcRuntime, list: &[Station; 12]) -> Result<(), Trouble> {
 
 pub(crate) fn show(rt: &LibcRuntime) -> Result<(), Trouble> {
     let mut list = stations()?;
-    println!(rt, "Ring main, broken by 4 neighbours down in a row")?;
+    let k = IN_A_ROW;
+    println!(rt, "Ring main, broken by {k} neighbours down in a row")?;
     figures(rt, &list)?;
     list[10].status = Status::Up;
     println!(rt, "The same with place 11 marked up")?;

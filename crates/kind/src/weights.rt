@@ -45,7 +45,7 @@ pub impl<S: Semiring> Kind for Weights<S> as WeightsKind {
     ghost ops = { λ w. weights-kind (S·Semiring .ops (w .semiring)) (w .threshold .k) };
 
     fn takes(&self, station: &Station) -> bool {
-        self.semiring.is_member(station.up) & self.semiring.is_member(station.down)
+        self.semiring.is_member(station.up) && self.semiring.is_member(station.down)
     }
 
     fn single(&self, station: &Station) -> Matrix {
