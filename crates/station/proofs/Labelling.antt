@@ -5,11 +5,11 @@ use mathlib.Core.Logic.{_⊎_, inl, inr}
 use mathlib.Core.List.{List, [], _∷_, _++_, append-assoc}
 use Prim.Native.Nat.{ℕ, zero, suc, _+_, _-_, _≤_, _<_, compare·suc-suc}
 use native.Mathlib.Omega.{arith}
-use lib.Dec.{eqb}
+use lib.Dec.{eqb, leb}
 use lib.ListN.{length, take, drop, getD, replicate}
 use Rattle.std.proofs.shelf.Lists.{take-more, drop-more, drop-all, append-nil}
-use Rattle.std.proofs.shelf.Tests.{cond-true, cond-false, cases-bool, false≢true, and-parts, eq-eqb, ne-eqb}
-use Rattle.station.specs.Labels.{printable, printables, label-of}
+use Rattle.std.proofs.shelf.Tests.{cond-true, cond-false, cases-bool, false≢true, and-parts, and-from, ne-eqb, le-leb}
+use Rattle.station.specs.Labels.{printable, printables, legal, label-of}
 
 -- the first n bytes belong to the label
 pub record Labelled (s : List ℕ) (n : ℕ) : Type 0 where
@@ -42,6 +42,20 @@ label-shorter (b ∷ bs) = by (cases-bool (printable b)) (label-shorter bs)
     by : (printable b ≡ true) ⊎ (printable b ≡ false) → length (label-of bs) ≤ length bs → length (label-of (b ∷ bs)) ≤ length (b ∷ bs)
     by (inl p) ih = rw (cond-true (printable b) (b ∷ label-of bs) [] p) (omega arith)
     by (inr p) ih = rw (cond-false (printable b) (b ∷ label-of bs) [] p) (omega arith)
+
+label-printable : (bs : List ℕ) → printables (label-of bs) ≡ true
+label-printable [] = refl
+label-printable (b ∷ bs) = by (cases-bool (printable b)) (label-printable bs)
+  where
+    by : (printable b ≡ true) ⊎ (printable b ≡ false) → printables (label-of bs) ≡ true → printables (label-of (b ∷ bs)) ≡ true
+    by (inl p) ih = rw (cond-true (printable b) (b ∷ label-of bs) [] p) (and-from (printable b) (printables (label-of bs)) p ih)
+    by (inr p) ih = rw (cond-false (printable b) (b ∷ label-of bs) [] p) refl
+
+-- what is read off 24 bytes or fewer is a label
+pub label-legal : (bs : List ℕ) → length bs ≤ 24 → legal (label-of bs) ≡ true
+label-legal bs short =
+    let less = label-shorter bs in
+    and-from (leb (length (label-of bs)) 24) (printables (label-of bs)) (le-leb (length (label-of bs)) 24 (omega arith)) (label-printable bs)
 
 -- the label is all of the bytes exactly where each is printable
 pub label-whole : (bs : List ℕ) → eqb (length (label-of bs)) (length bs) ≡ printables bs

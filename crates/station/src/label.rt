@@ -1,6 +1,6 @@
 // Labels: 0 to 24 bytes, each from 20 to 7E hexadecimal.
 ghost use Prim.Native.Nat.{_≤_};
-ghost use mathlib.Core.Bool.{not};
+ghost use mathlib.Core.Bool.{true, not};
 ghost use mathlib.Core.List.{[], _∷_};
 ghost use mathlib.Core.Path.{_≡_};
 ghost use lib.Dec.{leb};
@@ -32,6 +32,14 @@ fn label_len(bytes: &[u8]) -> usize
         }
     }
     bytes.len()
+}
+
+// The bytes before the first that no label has.
+fn label_in(bytes: &[u8]) -> &[u8]
+    ensures { λ r. ⌜ now r ≡ label-of (now (bytes .entry)) ⌝ }
+{
+    let n = label_len(bytes);
+    &bytes[0..n]
 }
 
 // Whether the bytes have room in a record.
@@ -90,11 +98,11 @@ impl Station {
         Ok(with_label(label, status, up, down))
     }
 
-    // The label's bytes.
+    // The label's bytes: whatever the record's are, a label.
     pub fn label(&self) -> &[u8]
-        ensures { λ r. ⌜ now r ≡ label-of (now (self .entry) .label) ⌝ }
+        ensures value { λ r. ⌜ now r ≡ label-of (now (self .entry) .label) ⌝ }
+        ensures legal { λ r. ⌜ legal (now r) ≡ true ⌝ }
     {
-        let n = label_len(&self.label);
-        &self.label[0..n]
+        label_in(&self.label)
     }
 }
