@@ -1,16 +1,16 @@
 -- Run summaries: the same where their parts are; joining is associative, with the empty one neutral.
 use mathlib.Core.Path.{_≡_, refl, sym, ap, ap₂, _∙_}
-use mathlib.Core.Bool.{Bool, true, false, cond, not, _&&_, _||_, Bool-set}
+use mathlib.Core.Bool.{Bool, true, false, not, _&&_, _||_, Bool-set}
 use mathlib.Core.HLevel.{isProp→PathP}
-use Prim.Native.Nat.{ℕ, _+_, _≤_, min, max}
+use Prim.Native.Nat.{ℕ, _+_, _≤_, max}
 use native.Mathlib.Omega.{arith}
 use lib.Dec.{leb, eqb}
-use Rattle.std.proofs.shelf.Tests.{false≢true, and-parts, and-from, or-cases, or-left, or-right, leb-true, le-leb, eqb-true, eq-eqb, cases-bool}
+use Rattle.std.proofs.shelf.Tests.{false≢true, and-parts, and-from, leb-true, le-leb, eqb-true, eq-eqb}
 use Rattle.kind.specs.declared.summary.RunSummary.{RunSummary}
 use Rattle.kind.specs.Sound.{sound}
 use Rattle.kind.specs.Runs.{no-run, summary-if, summary, joined-runs, Joined, goes-on, longest-of, capped}
 
-pub same : (a b : RunSummary) → a .all ≡ b .all → a .first ≡ b .first → a .last ≡ b .last → a .longest ≡ b .longest → a ≡ b
+same : (a b : RunSummary) → a .all ≡ b .all → a .first ≡ b .first → a .last ≡ b .last → a .longest ≡ b .longest → a ≡ b
 same a b p q r t = λ i. record {
   all = p i;
   first = q i;
@@ -34,13 +34,13 @@ pub no-summary : (e : Bool) (f l g : ℕ) → sound e f l g ≡ false → summar
 no-summary e f l g h = not-summary-if e f l g (sound e f l g) refl h
 
 -- the test, as facts
-pub record Facts (e : Bool) (f l g : ℕ) : Type 0 where
+record Facts (e : Bool) (f l g : ℕ) : Type 0 where
   pub low : f ≤ g
   pub high : l ≤ g
   pub bound : g ≤ 4294967295
   pub even : e ≡ true → (f ≡ g) × (l ≡ g)
 
-pub facts : (e : Bool) (f l g : ℕ) → sound e f l g ≡ true → Facts e f l g
+facts : (e : Bool) (f l g : ℕ) → sound e f l g ≡ true → Facts e f l g
 facts e f l g h =
     let p = and-parts (leb f g && leb l g && leb g 4294967295) (not e || (eqb f g && eqb l g)) h in
     let q = and-parts (leb f g && leb l g) (leb g 4294967295) (p .0) in
@@ -51,7 +51,7 @@ facts e f l g h =
     by true t _ = let p = and-parts (eqb f g) (eqb l g) t in (eqb-true f g (p .0), eqb-true l g (p .1))
     by false t q = absurd (false≢true q)
 
-pub from-facts : (e : Bool) (f l g : ℕ) → Facts e f l g → sound e f l g ≡ true
+from-facts : (e : Bool) (f l g : ℕ) → Facts e f l g → sound e f l g ≡ true
 from-facts e f l g k =
     and-from (leb f g && leb l g && leb g 4294967295) (not e || (eqb f g && eqb l g))
     (and-from (leb f g && leb l g) (leb g 4294967295) (and-from (leb f g) (leb l g) (le-leb f g (k .low)) (le-leb l g (k .high))) (le-leb g 4294967295 (k .bound)))
@@ -67,7 +67,7 @@ joined-facts true false f l g f′ l′ g′ x y = let p = x .even refl in recor
 joined-facts false true f l g f′ l′ g′ x y = let q = y .even refl in record { low = omega arith; high = omega arith; bound = omega arith; even = λ t. absurd (false≢true t) }
 joined-facts false false f l g f′ l′ g′ x y = record { low = omega arith; high = omega arith; bound = omega arith; even = λ t. absurd (false≢true t) }
 
-pub parts : (a b : RunSummary) → Joined a b (joined-runs a b)
+parts : (a b : RunSummary) → Joined a b (joined-runs a b)
 parts a b =
     by (sound (a .all && b .all) (goes-on (a .all) (a .first) (b .first)) (goes-on (b .all) (b .last) (a .last)) (longest-of (a .longest) (b .longest) (a .last) (b .first))) refl
     (from-facts _ _ _ _ (joined-facts (a .all) (b .all) (a .first) (a .last) (a .longest) (b .first) (b .last) (b .longest) (facts (a .all) (a .first) (a .last) (a .longest) (a .ok)) (facts (b .all) (b .first) (b .last) (b .longest) (b .ok))))

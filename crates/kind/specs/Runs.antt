@@ -5,7 +5,6 @@ use mathlib.Core.Bool.{Bool, true, false, cond, _&&_}
 use Prim.Native.Nat.{ℕ, _+_, min, max}
 use Rattle.station.specs.declared.record.Status.{Status}
 use Rattle.station.specs.declared.record.Status.the-variants.{Judged, Down, Up, Bypass}
-use Rattle.kind.specs.declared.figures.Figures.{Figures}
 use Rattle.kind.specs.declared.summary.RunSummary.{RunSummary}
 use Rattle.kind.specs.declared.summary.RunCell.{RunCell}
 use Rattle.kind.specs.Laws.{KindOps}

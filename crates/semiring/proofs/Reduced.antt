@@ -1,6 +1,6 @@
 -- Whole numbers under a reduction are a semiring: the one argument for counts and residues.
-use mathlib.Core.Path.{_≡_, refl, sym, ap, ap₂, _∙_}
-use mathlib.Core.Bool.{Bool, true, false, cond, _&&_}
+use mathlib.Core.Path.{_≡_, sym, ap, ap₂, _∙_}
+use mathlib.Core.Bool.{Bool, true, _&&_}
 use Prim.Native.Nat.{ℕ, _+_, _*_}
 use native.Mathlib.Nat.{add-assoc, add-comm, zero-add, mul-assoc, mul-comm, mul-add, add-mul, one-mul, mul-one, zero-mul, mul-zero}
 use Rattle.std.proofs.shelf.Tests.{cond-true, cond-false, and-from}

@@ -1,14 +1,14 @@
 -- Labels found byte by byte, and a label that was put into a record.
 use mathlib.Core.Path.{_≡_, refl, sym, ap, _∙_}
-use mathlib.Core.Bool.{Bool, true, false, cond, _&&_}
+use mathlib.Core.Bool.{true, false, _&&_}
 use mathlib.Core.Logic.{_⊎_, inl, inr}
 use mathlib.Core.List.{List, [], _∷_, _++_, append-assoc}
-use Prim.Native.Nat.{ℕ, zero, suc, _+_, _-_, _≤_, _<_, compare·suc-suc}
+use Prim.Native.Nat.{ℕ, zero, suc, _+_, _≤_, _<_, compare·suc-suc}
 use native.Mathlib.Omega.{arith}
 use lib.Dec.{eqb, leb}
 use lib.ListN.{length, take, drop, getD, replicate}
 use Rattle.std.proofs.shelf.Lists.{take-more, drop-more, drop-all, append-nil}
-use Rattle.std.proofs.shelf.Tests.{cond-true, cond-false, cases-bool, false≢true, and-parts, and-from, ne-eqb, le-leb}
+use Rattle.std.proofs.shelf.Tests.{cond-true, cond-false, cases-bool, and-parts, and-from, ne-eqb, le-leb}
 use Rattle.station.specs.Labels.{printable, printables, legal, label-of}
 
 -- the first n bytes belong to the label

@@ -1,6 +1,6 @@
 -- Labels, and how a record holds one.
 -- Words: printable, printables, legal, label-of, padded, station-with.
-use mathlib.Core.Bool.{Bool, true, false, cond, _&&_}
+use mathlib.Core.Bool.{Bool, true, cond, _&&_}
 use mathlib.Core.List.{List, [], _∷_, _++_}
 use Prim.Native.Nat.{ℕ, _-_}
 use lib.Dec.{leb}

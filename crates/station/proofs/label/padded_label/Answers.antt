@@ -1,9 +1,5 @@
-use mathlib.Core.Path.{_≡_, ap, _∙_}
-use mathlib.Core.List.{_++_}
 use native.Mathlib.Omega.{arith}
 use borrow.Author.Needs.{needs}
-use lib.ListN.{length, replicate}
-use Prim.Native.Nat.{_-_}
 use Rattle.std.proofs.shelf.Lists.{same-lists, places}
 use Rattle.station.proofs.label.padded_label.Needs as need
 

@@ -1,4 +1,4 @@
-use mathlib.Core.Path.{_≡_, refl, sym, _∙_}
+use mathlib.Core.Path.{refl, sym, _∙_}
 use Rattle.kind.proofs.Summaries.{is-summary, no-summary}
 use Rattle.kind.proofs.runs.RunsKind.from_cell.Needs as need
 
