@@ -1,10 +1,8 @@
 // The kind of weights: failing and working figures over any semiring.
-ghost use mathlib.Core.Bool.{_&&_, not};
-ghost use mathlib.Core.List.{[], _∷_};
 ghost use mathlib.Core.Path.{_≡_};
-ghost use lib.Dec.{leb};
 ghost use Rattle.std.specs.Vec.{made};
-ghost use Rattle.refusal.specs.Refusals.{told-as, first, answered};
+ghost use Rattle.refusal.specs.Refusals.{told-as, answered};
+ghost use Rattle.matrix.specs.Range.{threshold-refusal};
 ghost use Rattle.kind.specs.Weights.{weights-kind};
 use crate::Kind;
 use crate::figures::Figures;
@@ -26,7 +24,7 @@ pub struct Weights<S> {
 impl<S: Copy> Weights<S> {
     // The weights over a semiring, for a failure of k neighbours in a row, k from 1 to 4.
     pub fn new(semiring: S, k: u64) -> Result<Weights<S>, Refusal>
-        ensures threshold { λ r. ⌜ told-as (λ w. w .threshold .k) r ≡ answered (first ((not (leb 1 k && leb k 4), 1) ∷ [])) k ⌝ }
+        ensures threshold { λ r. ⌜ told-as (λ w. w .threshold .k) r ≡ answered (threshold-refusal k) k ⌝ }
         ensures semiring { λ r. ⌜ made r (λ w. w .semiring ≡ semiring) ⌝ }
     {
         let threshold = Threshold::new(k)?;

@@ -1,3 +1,4 @@
 pub mod Chain
 pub mod Entries
 pub mod Matrix
+pub mod Range

@@ -65,6 +65,7 @@ fn unit_code<S: Semiring>(semiring: &S, i: usize, j: usize) -> u64
     }
 }
 
+// What a matrix of either sort has there.
 fn code<S: Semiring>(semiring: &S, k: usize, entries: Entries, i: usize, j: usize) -> u64
     requires threshold { ⌜ k ≤ 4 ⌝ }
     requires state { ⌜ i < 9 ⌝ }

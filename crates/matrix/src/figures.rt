@@ -53,6 +53,7 @@ pub fn ring_failing<S: Semiring>(semiring: &S, threshold: Threshold, m: &Matrix)
     semiring.sum(m.at(0, 2 * k), across)
 }
 
+// On the ring: a state that ends in a run of j, from row j back to column j, without a run of k.
 pub fn ring_working<S: Semiring>(semiring: &S, threshold: Threshold, m: &Matrix) -> u64
     ensures { λ r. ⌜ r ≡ ring-working-of (S·Semiring .ops (now (semiring .entry))) (threshold .k) (now (m .entry)) ⌝ }
 {

@@ -1,10 +1,8 @@
 // The number k of neighbours down in a row that makes a failure.
 ghost use Prim.Native.Nat.{_≤_};
-ghost use mathlib.Core.Bool.{_&&_, not};
-ghost use mathlib.Core.List.{[], _∷_};
 ghost use mathlib.Core.Path.{_≡_};
-ghost use lib.Dec.{leb};
-ghost use Rattle.refusal.specs.Refusals.{told-as, first, answered};
+ghost use Rattle.refusal.specs.Refusals.{told-as, answered};
+ghost use Rattle.matrix.specs.Range.{threshold-refusal};
 use refusal::Refusal;
 
 #[derive(Clone, Copy)]
@@ -17,7 +15,7 @@ pub struct Threshold {
 impl Threshold {
     // A threshold from 1 to 4.
     pub fn new(k: u64) -> Result<Threshold, Refusal>
-        ensures { λ r. ⌜ told-as (λ t. t .k) r ≡ answered (first ((not (leb 1 k && leb k 4), 1) ∷ [])) k ⌝ }
+        ensures { λ r. ⌜ told-as (λ t. t .k) r ≡ answered (threshold-refusal k) k ⌝ }
     {
         if k < 1 || k > 4 {
             return Err(Refusal::OutOfRange);

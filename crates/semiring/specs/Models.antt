@@ -1,8 +1,11 @@
 -- The three semirings that are shipped.
--- Words: guarded, reduced, counts, residues, none, costs.
-use mathlib.Core.Bool.{Bool, cond, _&&_, _||_}
+-- Words: guarded, reduced, counts, residues, modulus-refusal, none, costs.
+use mathlib.Core.Bool.{Bool, cond, not, _&&_, _||_}
+use mathlib.Core.List.{[], _∷_}
 use Prim.Native.Nat.{ℕ, _+_, _*_, _%_, min}
 use lib.Dec.{leb, ltb, eqb}
+use Rattle.std.specs.declared.option.Option.{Option}
+use Rattle.refusal.specs.Refusals.{first}
 use Rattle.semiring.specs.Algebra.{SemiringOps}
 
 -- an operation on members, made one on all codes: zero where a code is no member
@@ -24,6 +27,9 @@ counts = reduced (λ x. leb x 1000000000) (λ n. min n 1000000000)
 
 abbrev pub residues : ℕ → SemiringOps
 residues m = reduced (λ x. ltb x m) (λ n. n % m)
+
+abbrev pub modulus-refusal : ℕ → Option ℕ
+modulus-refusal m = first ((not (leb 2 m && leb m 2147483647), 1) ∷ [])
 
 -- the code of what cannot be had
 abbrev pub none : ℕ

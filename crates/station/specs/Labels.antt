@@ -1,10 +1,12 @@
 -- Labels, and how a record holds one.
--- Words: printable, printables, legal, label-of, padded, station-with.
-use mathlib.Core.Bool.{Bool, true, cond, _&&_}
+-- Words: printable, printables, legal, label-refusal, label-of, padded, station-with.
+use mathlib.Core.Bool.{Bool, true, cond, not, _&&_}
 use mathlib.Core.List.{List, [], _∷_, _++_}
 use Prim.Native.Nat.{ℕ, _-_}
 use lib.Dec.{leb}
 use lib.ListN.{length, replicate}
+use Rattle.std.specs.declared.option.Option.{Option}
+use Rattle.refusal.specs.Refusals.{first}
 use Rattle.station.specs.declared.record.Station.{Station}
 use Rattle.station.specs.declared.record.Status.{Status}
 
@@ -19,6 +21,9 @@ printables (b ∷ bs) = printable b && printables bs
 -- the bytes are a label
 abbrev pub legal : List ℕ → Bool
 legal bs = leb (length bs) 24 && printables bs
+
+abbrev pub label-refusal : List ℕ → Option ℕ
+label-refusal bs = first ((not (legal bs), 4) ∷ [])
 
 -- the label in a record's room: the bytes before the first that no label has
 abbrev pub label-of : List ℕ → List ℕ

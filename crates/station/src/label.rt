@@ -1,13 +1,12 @@
 // Labels: 0 to 24 bytes, each from 20 to 7E hexadecimal.
 ghost use Prim.Native.Nat.{_≤_};
-ghost use mathlib.Core.Bool.{true, not};
-ghost use mathlib.Core.List.{[], _∷_};
+ghost use mathlib.Core.Bool.{true};
 ghost use mathlib.Core.Path.{_≡_};
 ghost use lib.Dec.{leb};
 ghost use lib.ListN.{length, take};
 ghost use Rattle.std.specs.Vec.{made};
-ghost use Rattle.refusal.specs.Refusals.{told, first, answered};
-ghost use Rattle.station.specs.Labels.{printable, printables, legal, padded, label-of, station-with};
+ghost use Rattle.refusal.specs.Refusals.{told, answered};
+ghost use Rattle.station.specs.Labels.{printable, printables, legal, label-refusal, padded, label-of, station-with};
 use crate::record::Station;
 use crate::record::Status;
 use refusal::Refusal;
@@ -89,7 +88,7 @@ fn with_label(label: &[u8], status: Status, up: u64, down: u64) -> Station
 impl Station {
     // A record with the label, which is tested before anything is copied.
     pub fn new(label: &[u8], status: Status, up: u64, down: u64) -> Result<Station, Refusal>
-        ensures value { λ r. ⌜ told r ≡ answered (first ((not (legal (now (label .entry))), 4) ∷ [])) (station-with (now (label .entry)) status up down) ⌝ }
+        ensures value { λ r. ⌜ told r ≡ answered (label-refusal (now (label .entry))) (station-with (now (label .entry)) status up down) ⌝ }
         ensures labelled { λ r. ⌜ made r (λ s. label-of (s .label) ≡ now (label .entry)) ⌝ }
     {
         if !is_legal(label) {
