@@ -1,4 +1,6 @@
 // Tests on examples, in a crate of their own so that the libraries are not proved twice.
+#![tactic(auto)]
+
 #[cfg(test)]
 mod kinds;
 #[cfg(test)]

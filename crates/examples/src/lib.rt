@@ -1,3 +1,5 @@
 // Examples: the rulebook's rows with the figures that the definitions give, and a semiring whose product does not commute.
+#![tactic(auto)]
+
 pub mod first_decides;
 pub mod row;

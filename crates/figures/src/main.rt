@@ -1,4 +1,6 @@
 // Prints the figures of a small ring main, and then those of the example rows in docs/rules/examples.md.
+#![tactic(auto)]
+
 mod report;
 mod ring_main;
 mod rows;

@@ -1,4 +1,6 @@
 // Kinds: what a line's figures are about. The interface, runs, weights over any semiring, and a stretch's figures.
+#![tactic(auto)]
+
 ghost use Rattle.std.specs.Prelude.{◌≡◌};
 ghost use Rattle.kind.specs.Laws.{KindOps, KindLaws};
 ghost use Rattle.kind.specs.Meaning.{Meaning, Meant, WindowSays, RingSays};

@@ -1,4 +1,6 @@
 // Why a call is turned down, and the number that the panel shows for it.
+#![tactic(auto)]
+
 ghost use Rattle.std.specs.Prelude.{◌≡◌};
 ghost use Rattle.refusal.specs.Refusals.{number};
 

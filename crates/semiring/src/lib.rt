@@ -1,4 +1,6 @@
 // Semirings on codes: the interface, a list's sum and product, and the three that are shipped.
+#![tactic(auto)]
+
 ghost use Rattle.std.specs.Prelude.{◌≡◌};
 ghost use Rattle.semiring.specs.Algebra.{SemiringOps, SemiringLaws, sum_of, product_of};
 

@@ -1,4 +1,6 @@
 // Stations: the record, its label, the words for statuses, and the weights that a status gives.
+#![tactic(auto)]
+
 pub mod label;
 pub mod record;
 pub mod same;

@@ -1,8 +1,8 @@
 // When two records are the same: by label, status and codes, whatever stands behind the labels.
-ghost use Rattle.std.specs.Prelude.{◌≡◌, Decides};
-ghost use Rattle.station.specs.Same.{Same};
-ghost use Rattle.std.specs.Cmp.Rules.{comparing};
-ghost use Rattle.std.proofs.Common.{rules};
+ghost use Rattle.std.specs.Prelude.{◌≡◌};
+ghost use Rattle.std.specs.Bool.{Decides};
+ghost use Rattle.station.specs.Same.{Same, is_same};
+ghost use Rattle.station.specs.SameLaws.{is_same_laws};
 
 use crate::record::Station;
 
@@ -14,11 +14,14 @@ fn same_values(a: &Station, b: &Station) -> bool
 }
 
 impl PartialEq for Station {
-    ghost equals = { λ a b r. Decides r (Same a b) };
+    ghost eq = { is_same };
 
-    ghost laws = { Prim.search (comparing, rules) };
+    ghost laws = { is_same_laws };
 
-    fn eq(&self, other: &Station) -> bool {
+    fn eq(&self, other: &Station) -> bool
+        ensures value { result ≡ is_same self.now other.now }
+        ensures same { Decides result (Same self.now other.now) }
+    {
         let label = self.label() == other.label();
         label & same_values(self, other)
     }

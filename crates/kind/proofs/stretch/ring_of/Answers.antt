@@ -6,6 +6,6 @@ pub returns : goal.returns
 returns g c =
     let k = c.args.kind.now in
     record {
-      joined = c.ring-by-joining.ensures;
-      says = c.ring-by-joining.ensures ∙ ring_told (g.K.Kind.ops k) (g.K.Kind.meaning k) (g.met.K.Kind.meant k) c.args.stations.now;
+      joined = c.ring_by_joining.ensures;
+      says = c.ring_by_joining.ensures ∙ ring_told (g.K.Kind.ops k) (g.K.Kind.meaning k) (g.met.K.Kind.meant k) c.args.stations.now;
     }

@@ -7,7 +7,7 @@ use Rattle.station.proofs.label.all_printable.Goals as goal
 pub returns : goal.returns
 returns c =
     let bs = c.args.bytes.now in
-    let n = c.label-len.result in
-    let w = c.label-len.ensures.within in
-    let long : n ≡ length (label_of bs) = omega (arith, length-take n bs, ap length c.label-len.ensures.label) in
+    let n = c.label_len.result in
+    let w = c.label_len.ensures.within in
+    let long : n ≡ length (label_of bs) = omega (arith, length-take n bs, ap length c.label_len.ensures.label) in
     ap (λ t. eqb t (length bs)) long ∙ label_whole bs

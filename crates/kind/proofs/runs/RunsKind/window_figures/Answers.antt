@@ -4,7 +4,7 @@ use Rattle.kind.proofs.runs.RunsKind.window_figures.Goals as goal
 
 pub returns : goal.returns
 returns c = record {
-  value = c.window-runs.ensures;
-  says = λ xs taken is. c.window-runs.ensures ∙ runs_meant.window c.args.element.now xs taken is;
-  exactly = λ xs few is. c.window-runs.ensures ∙ window_exactly c.args.element.now xs few is;
+  value = c.window_runs.ensures;
+  says = λ xs taken is. c.window_runs.ensures ∙ runs_meant.window c.args.element.now xs taken is;
+  exactly = λ xs few is. c.window_runs.ensures ∙ window_exactly c.args.element.now xs few is;
 }

@@ -7,6 +7,6 @@ returns g c =
     let w = c.args.self.now in
     let m = weights_meant (g.S.Semiring.ops w.semiring) (g.met.S.Semiring.lawful w.semiring) w.threshold.k w.threshold.low w.threshold.high in
     record {
-      value = c.ring-weights.ensures;
-      says = λ xs taken long is. c.ring-weights.ensures ∙ m.ring c.args.element.now xs taken long is;
+      value = c.ring_weights.ensures;
+      says = λ xs taken long is. c.ring_weights.ensures ∙ m.ring c.args.element.now xs taken long is;
     }

@@ -7,6 +7,6 @@ returns g c =
     let w = c.args.self.now in
     let m = weights_meant (g.S.Semiring.ops w.semiring) (g.met.S.Semiring.lawful w.semiring) w.threshold.k w.threshold.low w.threshold.high in
     record {
-      value = c.window-weights.ensures;
-      says = λ xs taken is. c.window-weights.ensures ∙ m.window c.args.element.now xs taken is;
+      value = c.window_weights.ensures;
+      says = λ xs taken is. c.window_weights.ensures ∙ m.window c.args.element.now xs taken is;
     }

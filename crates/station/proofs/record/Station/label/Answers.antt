@@ -7,4 +7,4 @@ pub returns : goal.returns
 returns c =
     let bs = c.args.self.now.label in
     let short : length c.args.self.now.label ≤ 24 = search rules in
-    record { value = c.label-in.ensures; legal = ap legal c.label-in.ensures ∙ label_legal bs short }
+    record { value = c.label_in.ensures; legal = ap legal c.label_in.ensures ∙ label_legal bs short }
