@@ -1,5 +1,5 @@
 -- The kind of runs.
--- Words: no_run, summary, capped, goes_on, longest_of, joined_runs, Joined, is_down, of_one, seam, runs_kind, marked,
+-- Words: no_run, summary, capped, goes_on, longest_of, joined_runs, Joined, is_down, of_status, seam, runs_kind, marked,
 -- runs_meaning, WindowExactly, RingExactly, WholeRingDown.
 use Rattle.std.specs.Prelude.{◌≡◌, ℕ, ◌+◌, ◌≤◌, min, max, Bool, true, false, cond, ◌&&◌, List, map, length, refl}
 use Rattle.std.specs.List.{AllByRecursion as All}
@@ -27,9 +27,9 @@ summary_if e f l g false ok = no_run
 abbrev pub summary : Bool → ℕ → ℕ → ℕ → RunSummary
 summary e f l g = summary_if e f l g (sound e f l g) refl
 
--- a count, which stops
+-- counts stop here
 abbrev pub capped : ℕ → ℕ
-capped n = min n count_limit
+capped n = min n 4294967295
 
 -- a run x that y carries on where all of x's stretch is down
 abbrev pub goes_on : Bool → ℕ → ℕ → ℕ
@@ -56,9 +56,8 @@ is_down Down = true
 is_down Up = false
 is_down Bypass = false
 
--- of one station that is down, or is not
-abbrev pub of_one : Bool → RunSummary
-of_one d = let n = cond d 1 0 in summary d n n n
+abbrev pub of_status : Status → RunSummary
+of_status t = let n = cond (is_down t) 1 0 in summary (is_down t) n n n
 
 -- the run that crosses from the last station to the first
 abbrev pub seam : RunSummary → ℕ
@@ -68,13 +67,13 @@ abbrev pub runs_kind : KindOps RunSummary RunCell
 runs_kind = record {
   takes = λ _. true;
   fit = λ _. Unit {0};
-  single = λ x. of_one (is_down x.status);
+  single = λ x. of_status x.status;
   empty = no_run;
   join = joined_runs;
   cell = λ a. record { all = a.all; first = a.first; last = a.last; longest = a.longest };
   element = λ c. summary c.all c.first c.last c.longest;
-  window = λ a. both a.longest a.first;
-  ring = λ a. both (max a.longest (seam a)) (seam a);
+  window = λ a. record { first = a.longest; second = a.first };
+  ring = λ a. record { first = max a.longest (seam a); second = seam a };
   shortest = 1;
 }
 

@@ -9,10 +9,14 @@ use Rattle.states.specs.Runs.{State, front, rear, longest, seam_run}
 use Rattle.states.proofs.Running.{longest-cons, longest_within, front-longest, rear_cases, all_or_not, ends_apart, ring_is}
 use Rattle.kind.specs.declared.summary.RunSummary.{RunSummary}
 use Rattle.kind.specs.Meaning.{both, Meant}
-use Rattle.kind.specs.Runs.{WindowExactly, RingExactly, WholeRingDown, capped, goes_on, joined_runs, is_down, of_one, seam, runs_kind, marked, runs_meaning}
+use Rattle.kind.specs.Runs.{WindowExactly, RingExactly, WholeRingDown, capped, goes_on, joined_runs, is_down, summary, seam, runs_kind, marked, runs_meaning}
 use Rattle.kind.specs.Stretch.{takes_all}
 use Rattle.kind.specs.Stretching.{joined_right, left_is_right}
 use Rattle.kind.specs.Summaries.{parts, runs_lawful}
+
+-- of one station that is down, or is not
+abbrev of_one : Bool → RunSummary
+of_one d = let n = cond d 1 0 in summary d n n n
 
 -- the mark tells whether all are down
 abbrev Marks : State → RunSummary → Type 0

@@ -3,10 +3,10 @@
 -- Words: count_limit, sound.
 use Rattle.std.specs.Prelude.{ℕ, Bool, not, ◌&&◌, ◌||◌, ◌==◌, nat_le}
 
--- counts stop here: 32 bits
+-- the most that a count can be: 32 bits
 abbrev pub count_limit : ℕ
 count_limit = 4294967295
 
 abbrev pub sound : Bool → ℕ → ℕ → ℕ → Bool
 sound all first last longest =
-    nat_le first longest && nat_le last longest && nat_le longest count_limit && (not all || (first == longest && last == longest))
+    nat_le first longest && nat_le last longest && nat_le longest 4294967295 && (not all || (first == longest && last == longest))

@@ -19,8 +19,8 @@ weights_kind S k = record {
   join = joined S (2 * k + 1);
   cell = λ m. m;
   element = λ m. m;
-  window = λ m. both (failing_of S k m) (working_of S k m);
-  ring = λ m. both (ring_failing_of S k m) (ring_working_of S k m);
+  window = λ m. record { first = failing_of S k m; second = working_of S k m };
+  ring = λ m. record { first = ring_failing_of S k m; second = ring_working_of S k m };
   shortest = k;
 }
 

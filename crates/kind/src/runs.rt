@@ -83,22 +83,22 @@ fn seam_run(stretch: &RunSummary) -> u32
 }
 
 // The longest run of a stretch, and the run at its front.
-fn window_runs(stretch: &RunSummary) -> Figures
-    ensures { result ≡ runs_kind.window stretch.now }
+fn window_runs(element: &RunSummary) -> Figures
+    ensures { result ≡ runs_kind.window element.now }
 {
     Figures {
-        first: stretch.longest as u64,
-        second: stretch.first as u64,
+        first: element.longest as u64,
+        second: element.first as u64,
     }
 }
 
 // The longest run around the ring, and the run across the seam.
-fn ring_runs(stretch: &RunSummary) -> Figures
-    ensures { result ≡ runs_kind.ring stretch.now }
+fn ring_runs(element: &RunSummary) -> Figures
+    ensures { result ≡ runs_kind.ring element.now }
 {
-    let seam = seam_run(stretch);
+    let seam = seam_run(element);
     Figures {
-        first: stretch.longest.max(seam) as u64,
+        first: element.longest.max(seam) as u64,
         second: seam as u64,
     }
 }

@@ -1,8 +1,8 @@
 // The figures of a stretch of stations, by joining their elements left to right.
 ghost use Rattle.std.specs.Prelude.{◌≡◌};
-ghost use Rattle.refusal.specs.Refusals.{told};
+ghost use Rattle.refusal.specs.Refusals.{told, answered};
 ghost use Rattle.kind.specs.Meaning.{meant_window, meant_ring};
-ghost use Rattle.kind.specs.Stretch.{takes_all, joined_all, joined_window, joined_ring};
+ghost use Rattle.kind.specs.Stretch.{takes_all, joined_all, window_refusal, ring_refusal, joined_window, joined_ring};
 
 use crate::Kind;
 use crate::figures::Figures;
@@ -60,7 +60,7 @@ fn ring_by_joining<K: Kind>(kind: &K, stations: &[Station]) -> Result<Figures, R
 
 // Both figures of the stations as a window: those of their joined elements, which say what the kind's figures mean.
 pub fn window_of<K: Kind>(kind: &K, stations: &[Station]) -> Result<Figures, Refusal>
-    ensures joined { told result ≡ joined_window (K.Kind.ops kind.now) stations.now }
+    ensures joined { told result ≡ answered (window_refusal (K.Kind.ops kind.now) stations.now) ((K.Kind.ops kind.now).window (joined_all (K.Kind.ops kind.now) stations.now)) }
     ensures says { told result ≡ meant_window (K.Kind.ops kind.now) (K.Kind.meaning kind.now) stations.now }
 {
     window_by_joining(kind, stations)
@@ -68,7 +68,7 @@ pub fn window_of<K: Kind>(kind: &K, stations: &[Station]) -> Result<Figures, Ref
 
 // Both figures of the stations as a ring.
 pub fn ring_of<K: Kind>(kind: &K, stations: &[Station]) -> Result<Figures, Refusal>
-    ensures joined { told result ≡ joined_ring (K.Kind.ops kind.now) stations.now }
+    ensures joined { told result ≡ answered (ring_refusal (K.Kind.ops kind.now) stations.now) ((K.Kind.ops kind.now).ring (joined_all (K.Kind.ops kind.now) stations.now)) }
     ensures says { told result ≡ meant_ring (K.Kind.ops kind.now) (K.Kind.meaning kind.now) stations.now }
 {
     ring_by_joining(kind, stations)

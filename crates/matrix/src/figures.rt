@@ -18,7 +18,7 @@ fn strided_sum<S: Semiring>(
 ) -> u64
     requires short { count ≤ 5 }
     requires wide { stride ≤ 10 }
-    requires low { start < 18 }
+    requires low { start < 9 }
     ensures { result ≡ sum_over (S.Semiring.ops semiring.now) (λ x. slice_index m.now.codes (start + stride * x)) (range_with_len 0 count) }
 {
     let mut total = semiring.zero();

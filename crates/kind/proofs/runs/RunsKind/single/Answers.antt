@@ -1,5 +1,5 @@
-use Rattle.std.proofs.Common.{ap, ◌∙◌}
-use Rattle.kind.specs.Runs.{of_one, summary}
+use Rattle.std.proofs.Common.{cond, ap, ◌∙◌}
+use Rattle.kind.specs.Runs.{summary}
 use Rattle.kind.proofs.runs.RunsKind.single.Goals as goal
 
 pub returns : goal.returns
@@ -7,4 +7,4 @@ returns c =
     let d = c.is_down-all.result in
     c.even_run.ensures
     ∙ ap (λ n. summary d n n n) c.run_of_one.ensures
-    ∙ ap of_one c.is_down-all.ensures
+    ∙ ap (λ t. summary t (cond t 1 0) (cond t 1 0) (cond t 1 0)) c.is_down-all.ensures
