@@ -1,8 +1,7 @@
 -- The kind of runs.
 -- Words: no_run, summary, capped, goes_on, longest_of, joined_runs, Joined, is_down, of_status, seam, runs_kind, marked,
 -- runs_meaning, WindowExactly, RingExactly, WholeRingDown.
-use Rattle.std.specs.Prelude.{◌≡◌, ℕ, ◌+◌, ◌≤◌, min, max, Bool, true, false, cond, ◌&&◌, List, map, length, refl}
-use Rattle.std.specs.List.{AllByRecursion as All}
+use Rattle.std.specs.Prelude.{◌≡◌, ℕ, ◌+◌, ◌≤◌, min, max, Bool, true, false, cond, ◌&&◌, List, map, length, All, refl}
 use Rattle.station.specs.declared.record.Station.{Station}
 use Rattle.station.specs.declared.record.Status.{Status}
 use Rattle.station.specs.declared.record.Status.TheVariants.{Judged, Down, Up, Bypass}

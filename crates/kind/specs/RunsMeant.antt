@@ -1,7 +1,6 @@
 -- A run summary tells the runs of the stations that it was joined from.
-use Rattle.std.specs.Prelude.{◌≡◌, ◌+◌, ◌<◌, Bool, true, false, cond, ◌⊎◌, List, [], ◌∷◌, length, refl}
+use Rattle.std.specs.Prelude.{◌≡◌, ◌+◌, ◌<◌, Bool, true, false, cond, ◌⊎◌, List, [], ◌∷◌, length, All, suc, refl}
 use Rattle.std.proofs.Common.{ap, ap₂, ◌∙◌, inl, inr, arith}
-use Rattle.std.specs.List.{AllByRecursion as All}
 use Rattle.std.proofs.lemmas.List.{length-map}
 use Rattle.station.specs.declared.record.Station.{Station}
 use Rattle.station.specs.declared.record.Status.TheVariants.{Down}
@@ -106,8 +105,8 @@ ring_exactly e xs some few is =
 marked_down : (xs : List Station) → All (λ x. x.status ≡ Down) xs → (front (marked xs) ≡ length xs) × (length (marked xs) ≡ length xs)
 marked_down [] h = (refl, refl)
 marked_down (x ∷ xs) h =
-    let ih = marked_down xs h.1 in
-    (ap (λ t. cond (is_down t) (front (marked xs) + 1) 0) h.0 ∙ omega arith, omega arith)
+    let ih = marked_down xs (λ k d lt. h (suc k) d (omega arith)) in
+    (ap (λ t. cond (is_down t) (front (marked xs) + 1) 0) (h 0 x (omega arith)) ∙ omega arith, omega arith)
 
 pub whole_ring_down : (e : RunSummary) → WholeRingDown e (runs_kind.ring e)
 whole_ring_down e xs h is =

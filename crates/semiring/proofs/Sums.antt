@@ -1,6 +1,6 @@
 -- Sums over lists in a lawful semiring.
 use Rattle.std.proofs.Common.{◌≡◌, ℕ, zero, suc, ◌+◌, ◌<◌, ◌≤◌, ◌⊎◌, List, [], ◌∷◌, ◌++◌, map, fold, sym, refl, ap, ◌∙◌, ap₂, inl, inr, add-zero, zero-add, add-one, arith}
-use Rattle.std.specs.List.{range_with_len, AllByRecursion as All}
+use Rattle.std.specs.List.{range_with_len, AllByRecursion}
 use Rattle.std.proofs.lemmas.Bool.{cases_eq}
 use Rattle.semiring.specs.Algebra.{SemiringOps, SemiringLaws, In, sum_over}
 
@@ -106,7 +106,7 @@ module _ {X : Type 0} (S : SemiringOps) (L : SemiringLaws S) where
       ∙ ap (λ t. S.sum t (sum_over S f ys)) (sym (sum_over-cons S L f hf x xs))
 
   -- equal on what is in the list
-  pub sum_over_all : (P : X → Type 0) (f g : X → ℕ) (hf : (x : X) → In S (f x)) (hg : (x : X) → In S (g x)) (xs : List X) → All P xs → ((x : X) → P x → f x ≡ g x) → sum_over S f xs ≡ sum_over S g xs
+  pub sum_over_all : (P : X → Type 0) (f g : X → ℕ) (hf : (x : X) → In S (f x)) (hg : (x : X) → In S (g x)) (xs : List X) → AllByRecursion P xs → ((x : X) → P x → f x ≡ g x) → sum_over S f xs ≡ sum_over S g xs
   sum_over_all P f g hf hg [] all h = refl
   sum_over_all P f g hf hg (x ∷ xs) all h =
       sum_over-cons S L f hf x xs ∙ ap₂ S.sum (h x all.0) (sum_over_all P f g hf hg xs all.1 h) ∙ sym (sum_over-cons S L g hg x xs)

@@ -1,6 +1,6 @@
 -- The three semirings that are shipped.
 -- Words: guarded, reduced, counts, residues, modulus_refusal, none, costs.
-use Rattle.std.specs.Prelude.{ℕ, ◌+◌, ◌*◌, ◌%◌, min, Bool, cond, not, ◌&&◌, ◌||◌, leb, [], ◌∷◌, Option, ◌==◌, nat_le, nat_lt}
+use Rattle.std.specs.Prelude.{ℕ, ◌+◌, ◌*◌, ◌%◌, min, Bool, cond, not, ◌&&◌, ◌||◌, [], ◌∷◌, Option, ◌==◌, nat_le, nat_lt}
 use Rattle.refusal.specs.Refusals.{first}
 use Rattle.semiring.specs.Algebra.{SemiringOps}
 
@@ -19,7 +19,7 @@ reduced member reduce = record {
 }
 
 abbrev pub counts : SemiringOps
-counts = reduced (λ x. leb x 1000000000) (λ n. min n 1000000000)
+counts = reduced (λ x. nat_le x 1000000000) (λ n. min n 1000000000)
 
 abbrev pub residues : ℕ → SemiringOps
 residues m = reduced (λ x. nat_lt x m) (λ n. n % m)
@@ -40,6 +40,6 @@ costs = record {
   member = λ x. nat_le x none;
   zero = none;
   one = 0;
-  sum = guarded (λ x. leb x none) none min;
-  product = guarded (λ x. leb x none) none both_costs;
+  sum = guarded (λ x. nat_le x none) none min;
+  product = guarded (λ x. nat_le x none) none both_costs;
 }

@@ -1,6 +1,6 @@
 -- The stations' matrices joined: an entry is the sum over the states that lead from its row to its column.
 use Rattle.std.proofs.Common.{◌≡◌, ℕ, ◌+◌, ◌*◌, ◌<◌, ◌≤◌, Bool, true, false, cond, eqb, ◌⊎◌, List, [], ◌∷◌, map, fold, sym, refl, ap, ◌∙◌, ap₂, inl, inr, arith}
-use Rattle.std.specs.List.{range_with_len, AllByRecursion as All}
+use Rattle.std.specs.List.{range_with_len, AllByRecursion}
 use Rattle.std.proofs.lemmas.Bool.{cases_Bool, eqb-true, eq-eqb, ne_eqb, cond-true, cond-false}
 use Rattle.semiring.specs.Algebra.{SemiringOps, SemiringLaws, In, sum_over}
 use Rattle.semiring.proofs.Sums.{sum_over_below, sum_over_cong, sum_over-sum, sum_over_pick, sum_over-append, sum_over-map, times_sum_over}
@@ -16,7 +16,7 @@ use Rattle.states.proofs.Following.{led, up_bound, down_bound, up_not_down}
 
 -- all weights of the stations are members
 abbrev pub Weighed : SemiringOps → List Station → Type 0
-Weighed S xs = All (λ x. (d : Bool) → In S (weight_of S x d)) xs
+Weighed S xs = AllByRecursion (λ x. (d : Bool) → In S (weight_of S x d)) xs
 
 abbrev pub matrix_of : SemiringOps → ℕ → Station → Matrix
 matrix_of S k x = station_matrix S k (weight_of S x false) (weight_of S x true)

@@ -1,6 +1,6 @@
 -- The figures read off the stations' product are the sums over the states, for the window and for the ring.
 use Rattle.std.proofs.Common.{◌≡◌, ℕ, suc, ◌+◌, ◌*◌, ◌<◌, ◌≤◌, min, Bool, true, false, cond, not, eqb, ◌⊎◌, List, [], ◌∷◌, map, length, filter, sym, refl, ap, ◌∙◌, ap₂, inl, inr, arith}
-use Rattle.std.specs.List.{range_with_len, AllByRecursion as All}
+use Rattle.std.specs.List.{range_with_len, AllByRecursion}
 use Rattle.std.proofs.ByRecursion.{All-append, All-map, All-weaker}
 use Rattle.std.proofs.lemmas.Bool.{cases_lt, cases_eq, eq-eqb, ne_eqb, cond-true, cond-false, le-leb, lt-leb}
 use Rattle.semiring.specs.Algebra.{SemiringOps, SemiringLaws, In, sum_over}
@@ -15,11 +15,11 @@ use Rattle.states.proofs.Following.{led, last_run, peak, peak_is, last_run_is, l
 use Rattle.states.proofs.Paths.{Weighed, chain, weight_right, weight_right_in, weight_is, if_so, if_so_in, path, path_in, paths}
 
 -- a state says something of each station
-length-states : (xs : List Station) → All (λ s. length s ≡ length xs) (states xs)
+length-states : (xs : List Station) → AllByRecursion (λ s. length s ≡ length xs) (states xs)
 length-states [] = (refl, tt)
 length-states (x ∷ xs) =
     let P : State → Type 0 = λ s. length s ≡ suc (length xs) in
-    let one_more : (d : Bool) → All P (map (λ s. d ∷ s) (states xs)) = λ d. All-map P (λ s. d ∷ s) (states xs) (All-weaker (λ s. length s ≡ length xs) (λ s. suc (length s) ≡ suc (length xs)) (λ s e. ap suc e) (states xs) (length-states xs)) in
+    let one_more : (d : Bool) → AllByRecursion P (map (λ s. d ∷ s) (states xs)) = λ d. All-map P (λ s. d ∷ s) (states xs) (All-weaker (λ s. length s ≡ length xs) (λ s. suc (length s) ≡ suc (length xs)) (λ s e. ap suc e) (states xs) (length-states xs)) in
     All-append P (map (λ s. false ∷ s) (states xs)) (map (λ s. true ∷ s) (states xs)) (one_more false) (one_more true)
 
 module _ (S : SemiringOps) (L : SemiringLaws S) where

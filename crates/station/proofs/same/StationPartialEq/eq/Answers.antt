@@ -12,8 +12,8 @@ returns c =
     let b = c.args.other.now in
     let label : Decides c.eq-label.result (c.label.result.now ≡ c.label-2.result.now) = slice_eq-Decides Decides-eqb _ _ _ c.eq-label.ensures in
     let same : Decides (c.eq-label.result && c.same_values.result) (Same a b) =
-        Decides-like (c.eq-label.result && c.same_values.result)
-        (λ p. record { label = sym c.label.ensures.value ∙ p.0 ∙ c.label-2.ensures.value; status = p.1.0; up = p.1.1.0; down = p.1.1.1 })
-        (λ s. (c.label.ensures.value ∙ s.label ∙ sym c.label-2.ensures.value, (s.status, (s.up, s.down))))
-        (Decides-and _ _ label c.same_values.ensures) in
+    Decides-like (c.eq-label.result && c.same_values.result)
+    (λ p. record { label = sym c.label.ensures.value ∙ p.0 ∙ c.label-2.ensures.value; status = p.1.0; up = p.1.1.0; down = p.1.1.1 })
+    (λ s. (c.label.ensures.value ∙ s.label ∙ sym c.label-2.ensures.value, (s.status, (s.up, s.down))))
+    (Decides-and _ _ label c.same_values.ensures) in
     record { value = one_answer (c.eq-label.result && c.same_values.result) (is_same a b) same (is_same-Decides a b); same = same }
