@@ -130,7 +130,7 @@ longest_assoc true ga la fb lb gb fc gc x =
     rw (p.0, p.1) (through ga la gb fc gc)
 longest_assoc false ga la fb lb gb fc gc x = around ga gb gc (capped (la + fb)) (capped (lb + fc))
 
-runs_assoc : (a b c : RunSummary) → joined_runs (joined_runs a b) c ≡ joined_runs a (joined_runs b c)
+pub runs_assoc : (a b c : RunSummary) → joined_runs (joined_runs a b) c ≡ joined_runs a (joined_runs b c)
 runs_assoc a b c =
     let ab = parts a b in
     let bc = parts b c in
@@ -145,7 +145,7 @@ runs_assoc a b c =
     ∙ longest_assoc b.all a.longest a.last b.first b.last b.longest c.first c.longest (facts b.all b.first b.last b.longest b.ok)
     ∙ sym (r.longest ∙ ap₂ (λ t u. longest_of a.longest t a.last u) bc.longest bc.first))
 
-runs_left : (a : RunSummary) → joined_runs no_run a ≡ a
+pub runs_left : (a : RunSummary) → joined_runs no_run a ≡ a
 runs_left a =
     let p = parts no_run a in
     let f = facts a.all a.first a.last a.longest a.ok in
@@ -155,7 +155,7 @@ runs_left a =
     by true f = omega arith
     by false f = refl
 
-runs_right : (a : RunSummary) → joined_runs a no_run ≡ a
+pub runs_right : (a : RunSummary) → joined_runs a no_run ≡ a
 runs_right a =
     let p = parts a no_run in
     let f = facts a.all a.first a.last a.longest a.ok in
