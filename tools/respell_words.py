@@ -3,9 +3,10 @@
 
 usage: python3 tools/respell_words.py [TOP]      (TOP: the top of a checkout; this one by default)
 
-Types and facts are in upper camel case, definitions and fields in snake case; in a lemma's name a dash stays only between two names
-that stand in its statement, and a fact keeps its capital. Names that Rattle makes (loop-x, returns, c.last-run) are left alone, and so
-are functions of src/, strings, inputs and outputs. It stops where a new name stood there before."""
+Types and facts are in upper camel case, definitions and fields in snake case; in a lemma's name a dash stays only between two things
+that its statement names, and a fact keeps its capital. It goes by whole words: in .rt and .antt files it respells each word that is in the
+tables below, wherever it stands, and in README.md and docs/ those between backticks. No name of a function of src/, and no string of
+src/, has such a word. It stops where a new name stood there before, but for those in FUNCTIONS."""
 import os
 import re
 import sys

@@ -6,5 +6,5 @@ pub mod Stretch
 pub mod Weights
 pub mod Summaries
 pub mod RunsMeant
-pub mod Stretching
+pub mod JoinedRight
 pub mod WeightsMeant

@@ -1,5 +1,5 @@
 -- The kind of runs.
--- Words: no_run, summary, capped, goes_on, longest_of, joined_runs, Joined, is_down, of_status, seam, runs_kind, marked,
+-- Words: no_run, summary_if, summary, capped, goes_on, longest_of, joined_runs, Joined, is_down, of_status, seam, runs_kind, marked,
 -- runs_meaning, WindowExactly, RingExactly, WholeRingDown.
 use Rattle.std.specs.Prelude.{◌≡◌, ℕ, ◌+◌, ◌≤◌, min, max, Bool, true, false, cond, ◌&&◌, List, map, length, All, refl}
 use Rattle.station.specs.declared.record.Station.{Station}

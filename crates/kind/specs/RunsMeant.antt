@@ -10,7 +10,7 @@ use Rattle.kind.specs.declared.summary.RunSummary.{RunSummary}
 use Rattle.kind.specs.Meaning.{both, Meant}
 use Rattle.kind.specs.Runs.{WindowExactly, RingExactly, WholeRingDown, capped, goes_on, joined_runs, is_down, summary, seam, runs_kind, marked, runs_meaning}
 use Rattle.kind.specs.Stretch.{takes_all}
-use Rattle.kind.specs.Stretching.{joined_right, left_is_right}
+use Rattle.kind.specs.JoinedRight.{joined_right, left_is_right}
 use Rattle.kind.specs.Summaries.{parts, runs_lawful}
 
 -- of one station that is down, or is not

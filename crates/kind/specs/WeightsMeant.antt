@@ -16,25 +16,25 @@ use Rattle.kind.specs.Laws.{KindLaws}
 use Rattle.kind.specs.Meaning.{both, Meant}
 use Rattle.kind.specs.Stretch.{takes_all, joined_all}
 use Rattle.kind.specs.Weights.{weights_kind, weights_meaning}
-use Rattle.kind.specs.Stretching.{joined_right, left_is_right}
+use Rattle.kind.specs.JoinedRight.{joined_right, left_is_right}
+
+-- the weights of a station whose codes are members are members
+up_in : (S : SemiringOps) (L : SemiringLaws S) (t : Status) (x : ℕ) → In S x → In S (up_as S t x)
+up_in S L Judged x h = h
+up_in S L Down x h = L.zero_in
+up_in S L Up x h = h
+up_in S L Bypass x h = L.one_in
+
+down_in : (S : SemiringOps) (L : SemiringLaws S) (t : Status) (x : ℕ) → In S x → In S (down_as S t x)
+down_in S L Judged x h = h
+down_in S L Down x h = h
+down_in S L Up x h = L.zero_in
+down_in S L Bypass x h = L.zero_in
 
 module _ (S : SemiringOps) (L : SemiringLaws S) where
-  -- the weights of a station whose codes are members are members
-  up_in : (t : Status) (x : ℕ) → In S x → In S (up_as S t x)
-  up_in Judged x h = h
-  up_in Down x h = L.zero_in
-  up_in Up x h = h
-  up_in Bypass x h = L.one_in
-
-  down_in : (t : Status) (x : ℕ) → In S x → In S (down_as S t x)
-  down_in Judged x h = h
-  down_in Down x h = h
-  down_in Up x h = L.zero_in
-  down_in Bypass x h = L.zero_in
-
   weight_in : (k : ℕ) (x : Station) → (weights_kind S k).takes x ≡ true → (d : Bool) → In S (weight_of S x d)
-  weight_in k x t true = down_in x.status x.down (and_parts (S.member x.up) (S.member x.down) t).1
-  weight_in k x t false = up_in x.status x.up (and_parts (S.member x.up) (S.member x.down) t).0
+  weight_in k x t true = down_in S L x.status x.down (and_parts (S.member x.up) (S.member x.down) t).1
+  weight_in k x t false = up_in S L x.status x.up (and_parts (S.member x.up) (S.member x.down) t).0
 
   pub weights_lawful : (k : ℕ) → k ≤ 4 → KindLaws (weights_kind S k)
   weights_lawful k high = record {

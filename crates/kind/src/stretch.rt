@@ -2,7 +2,7 @@
 ghost use Rattle.std.specs.Prelude.{◌≡◌};
 ghost use Rattle.refusal.specs.Refusals.{told, answered};
 ghost use Rattle.kind.specs.Meaning.{meant_window, meant_ring};
-ghost use Rattle.kind.specs.Stretch.{takes_all, joined_all, window_refusal, ring_refusal, joined_window, joined_ring};
+ghost use Rattle.kind.specs.Stretch.{takes_all, joined_all, window_refusal, ring_refusal};
 
 use crate::Kind;
 use crate::figures::Figures;
@@ -35,7 +35,7 @@ fn join_all<K: Kind>(kind: &K, stations: &[Station]) -> K::Element
 
 // The window figures of the joined elements.
 fn window_by_joining<K: Kind>(kind: &K, stations: &[Station]) -> Result<Figures, Refusal>
-    ensures { told result ≡ joined_window (K.Kind.ops kind.now) stations.now }
+    ensures { told result ≡ answered (window_refusal (K.Kind.ops kind.now) stations.now) ((K.Kind.ops kind.now).window (joined_all (K.Kind.ops kind.now) stations.now)) }
 {
     if !all_taken(kind, stations) {
         return Err(Refusal::NotTaken);
@@ -46,7 +46,7 @@ fn window_by_joining<K: Kind>(kind: &K, stations: &[Station]) -> Result<Figures,
 
 // The ring figures of the joined elements.
 fn ring_by_joining<K: Kind>(kind: &K, stations: &[Station]) -> Result<Figures, Refusal>
-    ensures { told result ≡ joined_ring (K.Kind.ops kind.now) stations.now }
+    ensures { told result ≡ answered (ring_refusal (K.Kind.ops kind.now) stations.now) ((K.Kind.ops kind.now).ring (joined_all (K.Kind.ops kind.now) stations.now)) }
 {
     if !all_taken(kind, stations) {
         return Err(Refusal::NotTaken);

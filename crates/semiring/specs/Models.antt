@@ -1,5 +1,5 @@
 -- The three semirings that are shipped.
--- Words: guarded, reduced, counts, residues, modulus_refusal, none, costs.
+-- Words: guarded, reduced, counts, residues, modulus_refusal, none, both_costs, costs.
 use Rattle.std.specs.Prelude.{ℕ, ◌+◌, ◌*◌, ◌%◌, min, Bool, cond, not, ◌&&◌, ◌||◌, [], ◌∷◌, Option, ◌==◌, nat_le, nat_lt}
 use Rattle.refusal.specs.Refusals.{first}
 use Rattle.semiring.specs.Algebra.{SemiringOps}

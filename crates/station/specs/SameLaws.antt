@@ -1,4 +1,4 @@
--- The test for the same record decides that two records are the same, and is an equivalence.
+-- The test for the same record decides that two records are the same, and is symmetric and transitive.
 use Rattle.std.specs.Prelude.{◌≡◌, ℕ, zero, suc, refl}
 use Rattle.std.specs.Bool.{Decides}
 use Rattle.std.specs.Cmp.{IsPartialEquivalence, partial_equiv_from_equiv, and_equiv, on_equiv, nat_eq_equiv}

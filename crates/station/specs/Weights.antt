@@ -1,5 +1,5 @@
 -- What a station weighs up and down over a semiring, by its status.
--- Words: up_weight, down_weight.
+-- Words: up_as, down_as, up_weight, down_weight.
 use Rattle.std.specs.Prelude.{ℕ}
 use Rattle.semiring.specs.Algebra.{SemiringOps}
 use Rattle.station.specs.declared.record.Station.{Station}

@@ -1,7 +1,7 @@
 use Rattle.std.proofs.Common.{sym, ◌∙◌}
 use Rattle.std.proofs.lemmas.List.{at_drop_all}
 use Rattle.kind.specs.Stretch.{takes_all}
-use Rattle.kind.specs.Stretching.{taken_more, taken_stop}
+use Rattle.kind.proofs.Stretching.{taken_more, taken_stop}
 use Rattle.kind.proofs.stretch.all_taken.Goals as goal
 
 pub returns-then-not-takes : goal.returns-then-not-takes

@@ -1,6 +1,6 @@
 use Rattle.std.proofs.Common.{ap, ◌∙◌, arith}
 use Rattle.semiring.proofs.Folds.{fold_more, fold_all}
-use Rattle.kind.specs.Stretching.{blank}
+use Rattle.kind.proofs.Stretching.{blank}
 use Rattle.kind.proofs.stretch.join_all.Goals as goal
 
 pub loop-station-preserved : goal.loop-station-preserved

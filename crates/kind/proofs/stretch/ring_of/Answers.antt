@@ -1,5 +1,5 @@
 use Rattle.std.proofs.Common.{◌∙◌}
-use Rattle.kind.specs.Stretching.{ring_told}
+use Rattle.kind.proofs.Stretching.{ring_told}
 use Rattle.kind.proofs.stretch.ring_of.Goals as goal
 
 pub returns : goal.returns

@@ -1,5 +1,5 @@
 use Rattle.std.proofs.Common.{◌∙◌}
-use Rattle.kind.specs.Stretching.{window_told}
+use Rattle.kind.proofs.Stretching.{window_told}
 use Rattle.kind.proofs.stretch.window_of.Goals as goal
 
 pub returns : goal.returns
