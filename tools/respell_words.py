@@ -5,7 +5,7 @@ usage: python3 tools/respell_words.py [TOP]      (TOP: the top of a checkout; th
 
 Types and facts are in upper camel case, definitions and fields in snake case; in a lemma's name a dash stays only between two things
 that its statement names, and a fact keeps its capital. It goes by whole words: in .rt and .antt files it respells each word that is in the
-tables below, wherever it stands, and in README.md and docs/ those between backticks. No name of a function of src/, and no string of
+tables below, but of WORDS none that is projected from a bracket, and in README.md and docs/, but for PORT*.md, those between backticks. No name of a function of src/, and no string of
 src/, has such a word. It stops where a new name stood there before, but for those in FUNCTIONS."""
 import os
 import re

@@ -1,6 +1,6 @@
 -- Going through a stretch station by station, and its answer in the words of the kind's meaning.
-use Rattle.std.specs.Prelude.{◌≡◌, ℕ, ◌+◌, ◌<◌, Bool, true, false, not, ◌&&◌, List, [], ◌∷◌, length, drop, Ok, nat_lt, slice_index_or, refl}
-use Rattle.std.proofs.Common.{sym, ap, ◌∙◌}
+use Rattle.std.specs.Prelude.{◌≡◌, ℕ, ◌+◌, ◌<◌, Bool, true, false, not, ◌&&◌, List, [], ◌∷◌, length, drop, Ok, nat_lt, refl}
+use Rattle.std.proofs.Common.{get_or, sym, ap, ◌∙◌}
 use Rattle.std.proofs.lemmas.List.{at_drop_more}
 use Rattle.std.proofs.lemmas.Bool.{ltb-false}
 use Rattle.refusal.specs.Refusals.{first, answered}
@@ -15,13 +15,13 @@ abbrev pub blank : Station
 blank = record { label = []; status = Judged; up = 0; down = 0 }
 
 module _ {E C : Type 0} (o : KindOps E C) (xs : List Station) (i : ℕ) (there : i < length xs) (so_far : takes_all o (drop i xs) ≡ takes_all o xs) where
-  here : takes_all o (drop i xs) ≡ (o.takes (slice_index_or xs i blank) && takes_all o (drop (i + 1) xs))
+  here : takes_all o (drop i xs) ≡ (o.takes (get_or xs i blank) && takes_all o (drop (i + 1) xs))
   here = at_drop_more (takes_all o) xs i blank there
 
-  pub taken_more : o.takes (slice_index_or xs i blank) ≡ true → takes_all o (drop (i + 1) xs) ≡ takes_all o xs
+  pub taken_more : o.takes (get_or xs i blank) ≡ true → takes_all o (drop (i + 1) xs) ≡ takes_all o xs
   taken_more h = sym (here ∙ ap (λ b. b && takes_all o (drop (i + 1) xs)) h) ∙ so_far
 
-  pub taken_stop : o.takes (slice_index_or xs i blank) ≡ false → takes_all o xs ≡ false
+  pub taken_stop : o.takes (get_or xs i blank) ≡ false → takes_all o xs ≡ false
   taken_stop h = sym so_far ∙ here ∙ ap (λ b. b && takes_all o (drop (i + 1) xs)) h
 
 -- an answer in the words of the meaning, where the kind's figures are meant
