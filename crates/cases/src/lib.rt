@@ -4,6 +4,8 @@
 #[cfg(test)]
 mod kinds;
 #[cfg(test)]
+mod refused;
+#[cfg(test)]
 mod semirings;
 #[cfg(test)]
 mod stations;

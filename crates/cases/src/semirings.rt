@@ -1,6 +1,6 @@
 // The semirings at their caps, with codes that are no members, and the ranges of m and k.
+use crate::refused::refused;
 use matrix::threshold::Threshold;
-use refusal::Refusal;
 use semiring::costs::Costs;
 use semiring::counts::Counts;
 use semiring::modulus::Residues;
@@ -13,9 +13,9 @@ use std::test::Fail;
 struct Row(u64, u64, u64, u64);
 
 fn holds<S: Semiring>(rt: &impl Abort, semiring: &S, rows: &[Row]) {
-    for row in rows {
-        assert_eq!(rt; semiring.sum(row.0, row.1), row.2);
-        assert_eq!(rt; semiring.product(row.0, row.1), row.3);
+    for &Row(x, y, sum, product) in rows {
+        assert_eq!(rt; semiring.sum(x, y), sum);
+        assert_eq!(rt; semiring.product(x, y), product);
     }
 }
 
@@ -45,8 +45,8 @@ fn residues_wrap(rt: HostRuntime) -> Result<(), Fail> {
         Row(7, 1, 0, 0),
         Row(1, 7, 0, 0),
     ];
-    holds(&rt, &Residues::new(7)?, &seven);
-    let most = Residues::new(2_147_483_647)?;
+    holds(&rt, &Residues::try_from(7u64)?, &seven);
+    let most = Residues::try_from(2_147_483_647u64)?;
     holds(
         &rt,
         &most,
@@ -86,29 +86,21 @@ fn lists_start_at_zero_and_one(rt: HostRuntime) {
     assert_eq!(rt; product_all(&Costs, &[8, 3, 5]), 16);
 }
 
-// The number of a refusal, or 0.
-fn refused<T: Drop>(answer: Result<T, Refusal>) -> u8 {
-    match answer {
-        Ok(_) => 0,
-        Err(refusal) => refusal.number(),
-    }
-}
-
 #[test]
 fn ranges(rt: HostRuntime) {
     let moduli = [
-        (0, 1),
-        (1, 1),
-        (2, 0),
-        (2_147_483_647, 0),
-        (2_147_483_648, 1),
-        (18_446_744_073_709_551_615, 1),
+        (0, Some(1)),
+        (1, Some(1)),
+        (2, None),
+        (2_147_483_647, None),
+        (2_147_483_648, Some(1)),
+        (18_446_744_073_709_551_615, Some(1)),
     ];
     for (m, number) in moduli {
-        assert_eq!(rt; refused(Residues::new(m)), number);
+        assert_eq!(rt; refused(Residues::try_from(m)), number);
     }
-    let thresholds = [(0, 1), (1, 0), (4, 0), (5, 1)];
+    let thresholds = [(0, Some(1)), (1, None), (4, None), (5, Some(1))];
     for (k, number) in thresholds {
-        assert_eq!(rt; refused(Threshold::new(k)), number);
+        assert_eq!(rt; refused(Threshold::try_from(k)), number);
     }
 }

@@ -1,4 +1,5 @@
 // Labels of every length, records that are the same, and the weights of each status.
+use crate::refused::refused;
 use refusal::Refusal;
 use semiring::costs::Costs;
 use semiring::counts::Counts;
@@ -21,15 +22,19 @@ fn labels_that_are_taken(rt: HostRuntime) -> Result<(), Fail> {
     for label in labels {
         let station = made(label)?;
         assert!(rt; station.label() == label);
-        for i in label.len()..24 {
-            assert!(rt; i < 24 && station.label[i] == 0);
-        }
+        assert!(rt;
+            station
+                .label
+                .iter()
+                .skip(label.len())
+                .all(|byte| *byte == 0)
+        );
     }
     Ok(())
 }
 
 #[test]
-fn labels_that_are_refused(rt: HostRuntime) -> Result<(), Fail> {
+fn labels_that_are_refused(rt: HostRuntime) {
     let labels: [&[u8]; 5] = [
         b"abcdefghijklmnopqrstuvwxy",
         b"\x1f",
@@ -38,12 +43,8 @@ fn labels_that_are_refused(rt: HostRuntime) -> Result<(), Fail> {
         b"line\n",
     ];
     for label in labels {
-        match made(label) {
-            Ok(_) => return Err(Fail::new("a label was taken")),
-            Err(refusal) => assert_eq!(rt; refusal.number(), 4),
-        }
+        assert_eq!(rt; refused(made(label)), Some(4));
     }
-    Ok(())
 }
 
 #[test]
@@ -91,8 +92,13 @@ fn weights_by_status(rt: HostRuntime) -> Result<(), Fail> {
 
 #[test]
 fn words_of_statuses(rt: HostRuntime) {
-    assert!(rt; Status::Judged.word() == "judged");
-    assert!(rt; Status::Down.word() == "down");
-    assert!(rt; Status::Up.word() == "up");
-    assert!(rt; Status::Bypass.word() == "bypass");
+    let words = [
+        (Status::Judged, "judged"),
+        (Status::Down, "down"),
+        (Status::Up, "up"),
+        (Status::Bypass, "bypass"),
+    ];
+    for (status, word) in words {
+        assert!(rt; status.word() == word);
+    }
 }

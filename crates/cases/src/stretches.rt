@@ -5,6 +5,7 @@ use kind::figures::Figures;
 use kind::runs::Runs;
 use kind::stretch::{ring_of, window_of};
 use kind::weights::Weights;
+use semiring::Semiring;
 use semiring::costs::Costs;
 use semiring::counts::Counts;
 use semiring::modulus::Residues;
@@ -26,18 +27,12 @@ const MIXED: [(Status, u64, u64); 9] = [
 ];
 
 fn mixed() -> [Station; 9] {
-    let mut stations = [Station {
+    MIXED.map(|(status, up, down)| Station {
         label: [0; 24],
-        status: Status::Up,
-        up: 0,
-        down: 0,
-    }; 9];
-    for (station, (status, up, down)) in stations.iter_mut().zip(MIXED) {
-        station.status = status;
-        station.up = up;
-        station.down = down;
-    }
-    stations
+        status,
+        up,
+        down,
+    })
 }
 
 // The window's figures, and the ring's.
@@ -55,47 +50,51 @@ fn both<K: Kind>(
     Ok(())
 }
 
+// A threshold, and the figures of the mixed stations as a window and as a ring.
+type MixedRow = (u64, (u64, u64), (u64, u64));
+
+fn of_mixed_stations<S: Semiring>(
+    rt: &impl Abort,
+    semiring: S,
+    rows: [MixedRow; 4],
+) -> Result<(), Fail> {
+    for (k, window, ring) in rows {
+        both(rt, &Weights::new(semiring, k)?, &mixed(), window, ring)?;
+    }
+    Ok(())
+}
+
 #[test]
 fn counts_of_mixed_stations(rt: HostRuntime) -> Result<(), Fail> {
-    let stations = mixed();
-    for (k, window, ring) in [
+    let rows = [
         (1, (107520, 0), (107520, 0)),
         (2, (72960, 34560), (107520, 0)),
         (3, (31520, 76000), (72960, 34560)),
         (4, (0, 107520), (33120, 74400)),
-    ] {
-        both(&rt, &Weights::new(Counts, k)?, &stations, window, ring)?;
-    }
-    Ok(())
+    ];
+    of_mixed_stations(&rt, Counts, rows)
 }
 
 #[test]
 fn residues_of_mixed_stations(rt: HostRuntime) -> Result<(), Fail> {
-    let stations = mixed();
-    let residues = Residues::new(97)?;
-    for (k, window, ring) in [
+    let rows = [
         (1, (44, 0), (44, 0)),
         (2, (16, 28), (44, 0)),
         (3, (92, 49), (16, 28)),
         (4, (0, 44), (43, 1)),
-    ] {
-        both(&rt, &Weights::new(residues, k)?, &stations, window, ring)?;
-    }
-    Ok(())
+    ];
+    of_mixed_stations(&rt, Residues::try_from(97u64)?, rows)
 }
 
 #[test]
 fn costs_of_mixed_stations(rt: HostRuntime) -> Result<(), Fail> {
-    let stations = mixed();
-    for (k, window, ring) in [
+    let rows = [
         (1, (17, 1000000000001), (17, 1000000000001)),
         (2, (17, 22), (17, 1000000000001)),
         (3, (19, 17), (17, 22)),
         (4, (1000000000001, 17), (19, 17)),
-    ] {
-        both(&rt, &Weights::new(Costs, k)?, &stations, window, ring)?;
-    }
-    Ok(())
+    ];
+    of_mixed_stations(&rt, Costs, rows)
 }
 
 // A weight is a product in station order, and here the first factor decides.
@@ -126,6 +125,7 @@ fn runs_of_statuses(rt: HostRuntime) -> Result<(), Fail> {
         (b"ddddd", (5, 5), (5, 5)),
     ];
     for (marks, window, ring) in rows {
+        // as many as there are marks, in fixed memory
         let mut stations = [up; 6];
         let n = marks.len().min(6);
         for (mark, station) in marks.iter().zip(stations.iter_mut()) {

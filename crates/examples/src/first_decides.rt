@@ -27,6 +27,7 @@ impl Semiring for FirstDecides {
         2
     }
 
+    // The test of members is written out, for the reason that costs have.
     fn sum(&self, x: u64, y: u64) -> u64 {
         if x > MOST || y > MOST {
             return 0;

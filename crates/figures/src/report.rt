@@ -8,13 +8,13 @@ use std::io;
 
 // Place, label, status and codes of each station.
 pub(crate) fn stations(rt: &HostRuntime, list: &[Station]) -> io::Result<()> {
-    for (i, station) in list.iter().enumerate() {
-        rt.print(format_args!("{:>2} ", i.saturating_add(1)))?;
+    for (place, station) in (1usize..).zip(list) {
+        rt.print(format_args!("{place:>2} "))?;
         rt.write_all(station.label())?;
-        let status = station.status.word();
-        let up = station.up;
-        let down = station.down;
-        println!(rt; ": {status}, up {up}, down {down}")?;
+        println!(rt;
+            ": {}, up {}, down {}",
+            station.status, station.up, station.down
+        )?;
     }
     Ok(())
 }
@@ -23,10 +23,7 @@ pub(crate) fn stations(rt: &HostRuntime, list: &[Station]) -> io::Result<()> {
 fn figures(rt: &HostRuntime, what: &str, answer: Result<Figures, Refusal>) -> io::Result<()> {
     match answer {
         Ok(Figures { first, second }) => println!(rt; "  {what}: {first}, {second}"),
-        Err(refusal) => {
-            let number = refusal.number();
-            println!(rt; "  {what}: refused, {number}")
-        }
+        Err(refusal) => println!(rt; "  {what}: refused, {}", u8::from(refusal)),
     }
 }
 

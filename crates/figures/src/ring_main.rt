@@ -1,15 +1,11 @@
 // A ring main of a dozen stations: what it costs at least to break it, and how long a run is down.
 ghost use Rattle.std.specs.Prelude.{◌≡◌};
 ghost use Rattle.refusal.specs.Refusals.{told, answered};
-ghost use Rattle.semiring.specs.Models.{costs};
-ghost use Rattle.states.specs.Runs.{longest, ring_longest};
-ghost use Rattle.states.specs.States.{failing, ring_failing};
-ghost use Rattle.kind.specs.Runs.{runs_kind, capped, marked};
 ghost use Rattle.kind.specs.Stretch.{window_refusal, ring_refusal};
-ghost use Rattle.kind.specs.Weights.{weights_kind};
 
 use crate::report;
 use crate::trouble::Trouble;
+use kind::Kind;
 use kind::runs::Runs;
 use kind::stretch::{ring_of, window_of};
 use kind::weights::Weights;
@@ -38,32 +34,18 @@ fn stations() -> Result<[Station; 12], Refusal> {
     ])
 }
 
-// The least that it costs to break a window: the least cost of a failing state.
-fn cheapest_break(kind: &Weights<Costs>, stations: &[Station]) -> Result<u64, Refusal>
-    ensures { told result ≡ answered (window_refusal (weights_kind costs kind.now.threshold.k) stations.now) (failing costs kind.now.threshold.k stations.now) }
+// The first figure of a window, as its kind means it: of costs the least cost of a failing state, of runs the longest run down.
+fn window_figure<K: Kind>(kind: &K, stations: &[Station]) -> Result<u64, Refusal>
+    ensures { told result ≡ answered (window_refusal (K.Kind.ops kind.now) stations.now) ((K.Kind.meaning kind.now).window stations.now).first }
 {
     Ok(window_of(kind, stations)?.first)
 }
 
-// The same around a ring.
-fn cheapest_ring_break(kind: &Weights<Costs>, stations: &[Station]) -> Result<u64, Refusal>
-    ensures { told result ≡ answered (ring_refusal (weights_kind costs kind.now.threshold.k) stations.now) (ring_failing costs kind.now.threshold.k stations.now) }
+// The same around a ring. Two functions: one that took the call to make as an argument would be no plainer.
+fn ring_figure<K: Kind>(kind: &K, stations: &[Station]) -> Result<u64, Refusal>
+    ensures { told result ≡ answered (ring_refusal (K.Kind.ops kind.now) stations.now) ((K.Kind.meaning kind.now).ring stations.now).first }
 {
     Ok(ring_of(kind, stations)?.first)
-}
-
-// How many stations in a row are marked down in a window.
-fn longest_run(stations: &[Station]) -> Result<u64, Refusal>
-    ensures { told result ≡ answered (window_refusal runs_kind stations.now) (capped (longest (marked stations.now))) }
-{
-    Ok(window_of(&Runs, stations)?.first)
-}
-
-// The same around a ring.
-fn longest_ring_run(stations: &[Station]) -> Result<u64, Refusal>
-    ensures { told result ≡ answered (ring_refusal runs_kind stations.now) (capped (ring_longest (marked stations.now))) }
-{
-    Ok(ring_of(&Runs, stations)?.first)
 }
 
 // The stations, and the figures of places 2 to 9 and of the whole ring.
@@ -71,13 +53,13 @@ fn figures(rt: &HostRuntime, list: &[Station; 12]) -> Result<(), Trouble> {
     let kind = Weights::new(Costs, IN_A_ROW)?;
     let stretch = &list[1..9];
     report::stations(rt, list)?;
-    let broken = cheapest_break(&kind, stretch)?;
+    let broken = window_figure(&kind, stretch)?;
     println!(rt; "cheapest break of places 2 to 9: {broken}")?;
-    let broken = cheapest_ring_break(&kind, list)?;
+    let broken = ring_figure(&kind, list)?;
     println!(rt; "cheapest break of the ring: {broken}")?;
-    let run = longest_run(stretch)?;
+    let run = window_figure(&Runs, stretch)?;
     println!(rt; "longest run down in places 2 to 9: {run}")?;
-    let run = longest_ring_run(list)?;
+    let run = ring_figure(&Runs, list)?;
     println!(rt; "longest run down on the ring: {run}")?;
     Ok(())
 }

@@ -61,7 +61,7 @@ fn counts(rt: &HostRuntime) -> Result<(), Trouble> {
 }
 
 fn residues(rt: &HostRuntime) -> Result<(), Trouble> {
-    let two = Weights::new(Residues::new(7)?, 2)?;
+    let two = Weights::new(Residues::try_from(7u64)?, 2)?;
     let four = [judged(1, 1)?; 4];
     println!(rt; "residues by 7, k 2, n 4, each 1 and 1")?;
     report::both(rt, &two, &four)?;
@@ -84,10 +84,10 @@ fn costs(rt: &HostRuntime) -> Result<(), Trouble> {
 
 fn runs(rt: &HostRuntime) -> Result<(), Trouble> {
     let mut four = [judged(0, 0)?; 4];
-    four[0].status = Status::Down;
-    four[1].status = Status::Down;
-    four[2].status = Status::Up;
-    four[3].status = Status::Down;
+    let statuses = [Status::Down, Status::Down, Status::Up, Status::Down];
+    for (station, status) in four.iter_mut().zip(statuses) {
+        station.status = status;
+    }
     println!(rt; "runs, n 4, down, down, up, down")?;
     report::both(rt, &Runs, &four)?;
     compare(Row::Runs, window_of(&Runs, &four))?;

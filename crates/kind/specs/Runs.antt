@@ -16,10 +16,10 @@ use Rattle.kind.specs.Stretch.{joined_all}
 
 -- of no station
 abbrev pub no_run : RunSummary
-no_run = record { all = true; first = 0; last = 0; longest = 0; ok = refl }
+no_run = record { cell = record { all = true; first = 0; last = 0; longest = 0 }; ok = refl }
 
 abbrev pub summary_if : (e : Bool) (f l g : ℕ) (b : Bool) → sound e f l g ≡ b → RunSummary
-summary_if e f l g true ok = record { all = e; first = f; last = l; longest = g; ok = ok }
+summary_if e f l g true ok = record { cell = record { all = e; first = f; last = l; longest = g }; ok = ok }
 summary_if e f l g false ok = no_run
 
 -- the summary with these parts, or the empty one where no summary has them
@@ -40,14 +40,14 @@ longest_of g h l f = max (max g h) (capped (l + f))
 
 abbrev pub joined_runs : RunSummary → RunSummary → RunSummary
 joined_runs a b =
-    summary (a.all && b.all) (goes_on a.all a.first b.first) (goes_on b.all b.last a.last) (longest_of a.longest b.longest a.last b.first)
+    summary (a.cell.all && b.cell.all) (goes_on a.cell.all a.cell.first b.cell.first) (goes_on b.cell.all b.cell.last a.cell.last) (longest_of a.cell.longest b.cell.longest a.cell.last b.cell.first)
 
 -- the parts of a joining, which are always those of a summary
 pub record Joined (a b r : RunSummary) : Type 0 where
-  pub all : r.all ≡ (a.all && b.all)
-  pub first : r.first ≡ goes_on a.all a.first b.first
-  pub last : r.last ≡ goes_on b.all b.last a.last
-  pub longest : r.longest ≡ longest_of a.longest b.longest a.last b.first
+  pub all : r.cell.all ≡ (a.cell.all && b.cell.all)
+  pub first : r.cell.first ≡ goes_on a.cell.all a.cell.first b.cell.first
+  pub last : r.cell.last ≡ goes_on b.cell.all b.cell.last a.cell.last
+  pub longest : r.cell.longest ≡ longest_of a.cell.longest b.cell.longest a.cell.last b.cell.first
 
 abbrev pub is_down : Status → Bool
 is_down Judged = false
@@ -60,7 +60,7 @@ of_status t = let n = cond (is_down t) 1 0 in summary (is_down t) n n n
 
 -- the run that crosses from the last station to the first
 abbrev pub seam : RunSummary → ℕ
-seam a = cond a.all a.first (capped (a.last + a.first))
+seam a = cond a.cell.all a.cell.first (capped (a.cell.last + a.cell.first))
 
 abbrev pub runs_kind : KindOps RunSummary RunCell
 runs_kind = record {
@@ -69,10 +69,10 @@ runs_kind = record {
   single = λ x. of_status x.status;
   empty = no_run;
   join = joined_runs;
-  cell = λ a. record { all = a.all; first = a.first; last = a.last; longest = a.longest };
+  cell = λ a. a.cell;
   element = λ c. summary c.all c.first c.last c.longest;
-  window = λ a. record { first = a.longest; second = a.first };
-  ring = λ a. record { first = max a.longest (seam a); second = seam a };
+  window = λ a. record { first = a.cell.longest; second = a.cell.first };
+  ring = λ a. record { first = max a.cell.longest (seam a); second = seam a };
   shortest = 1;
 }
 

@@ -42,6 +42,7 @@ pub trait Kind: Copy {
     fn join(&self, left: &Self::Element, right: &Self::Element) -> Self::Element
         ensures { result ≡ (ops self.now).join left.now right.now };
 
+    // A node's cell for an element, and what any cell stands for. No From, since it is the kind, a value, that says so.
     fn to_cell(&self, element: &Self::Element) -> Self::Cell
         ensures { result ≡ (ops self.now).cell element.now };
 

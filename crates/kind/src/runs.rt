@@ -1,7 +1,7 @@
 // The kind of runs: how many stations in a row are down.
-ghost use Rattle.std.specs.Prelude.{◌≡◌, if◌then◌else◌};
+ghost use Rattle.std.specs.Prelude.{◌≡◌};
 ghost use Rattle.kind.specs.Meaning.{WindowSays, RingSays};
-ghost use Rattle.kind.specs.Runs.{runs_kind, runs_meaning, WindowExactly, RingExactly, WholeRingDown, is_down, summary, goes_on, longest_of, seam, joined_runs, Joined};
+ghost use Rattle.kind.specs.Runs.{runs_kind, runs_meaning, WindowExactly, RingExactly, WholeRingDown, summary, goes_on, longest_of, seam, joined_runs, Joined};
 ghost use Rattle.kind.specs.Sound.{sound};
 ghost use Rattle.kind.specs.Summaries.{runs_lawful};
 ghost use Rattle.kind.specs.RunsMeant.{runs_meant};
@@ -11,36 +11,8 @@ use crate::figures::Figures;
 use crate::summary::{RunCell, RunSummary};
 use station::record::{Station, Status};
 
-#[derive(Clone, Copy)]
+#[derive(Clone, Copy, PartialEq, Eq, Debug)]
 pub struct Runs;
-
-fn is_down(status: Status) -> bool
-    ensures { result ≡ is_down status }
-{
-    match status {
-        Status::Down => true,
-        Status::Judged | Status::Up | Status::Bypass => false,
-    }
-}
-
-// How many of one station are down.
-fn run_of_one(down: bool) -> u32
-    ensures { result ≡ (if down then 1 else 0) }
-{
-    if down { 1 } else { 0 }
-}
-
-// The summary whose three runs are the same.
-fn even_run(all: bool, n: u32) -> RunSummary
-    ensures { result ≡ summary all n n n }
-{
-    RunSummary {
-        all,
-        first: n,
-        last: n,
-        longest: n,
-    }
-}
 
 // A run that `more` carries on where all of its stretch is down.
 fn carried_on(all: bool, run: u32, more: u32) -> u32
@@ -49,68 +21,52 @@ fn carried_on(all: bool, run: u32, more: u32) -> u32
     if all { run.saturating_add(more) } else { run }
 }
 
-// The run at the front of two stretches.
-fn first_run(left: &RunSummary, right: &RunSummary) -> u32
-    ensures { result ≡ goes_on left.now.all left.now.first right.now.first }
-{
-    carried_on(left.all, left.first, right.first)
-}
+impl RunCell {
+    // Whether the cell keeps what every summary keeps.
+    fn is_sound(&self) -> bool
+        ensures { result ≡ sound self.now.all self.now.first self.now.last self.now.longest }
+    {
+        if self.all {
+            self.first == self.longest && self.last == self.longest
+        } else {
+            self.first <= self.longest && self.last <= self.longest
+        }
+    }
 
-// The run at the end of two stretches.
-fn last_run(left: &RunSummary, right: &RunSummary) -> u32
-    ensures { result ≡ goes_on right.now.all right.now.last left.now.last }
-{
-    carried_on(right.all, right.last, left.last)
-}
-
-// The longest run of two stretches, the one across their border included.
-fn longest_run(left: &RunSummary, right: &RunSummary) -> u32
-    ensures { result ≡ longest_of left.now.longest right.now.longest left.now.last right.now.first }
-{
-    let across = left.last.saturating_add(right.first);
-    left.longest.max(right.longest).max(across)
-}
-
-// The run that crosses from the last station to the first; where all are down, each counts once.
-fn seam_run(stretch: &RunSummary) -> u32
-    ensures { result ≡ seam stretch.now }
-{
-    if stretch.all {
-        stretch.first
-    } else {
-        stretch.last.saturating_add(stretch.first)
+    // The longest run of this stretch and the next, the one across their border included.
+    fn longest_with(&self, next: &RunCell) -> u32
+        ensures { result ≡ longest_of self.now.longest next.now.longest self.now.last next.now.first }
+    {
+        let across = self.last.saturating_add(next.first);
+        self.longest.max(next.longest).max(across)
     }
 }
 
-// The longest run of a stretch, and the run at its front.
-fn window_runs(element: &RunSummary) -> Figures
-    ensures { result ≡ runs_kind.window element.now }
-{
-    Figures {
-        first: element.longest as u64,
-        second: element.first as u64,
+impl RunSummary {
+    // The summary whose three runs are the same.
+    fn even(all: bool, n: u32) -> RunSummary
+        ensures { result ≡ summary all n n n }
+    {
+        RunSummary {
+            cell: RunCell {
+                all,
+                first: n,
+                last: n,
+                longest: n,
+            },
+        }
     }
-}
 
-// The longest run around the ring, and the run across the seam.
-fn ring_runs(element: &RunSummary) -> Figures
-    ensures { result ≡ runs_kind.ring element.now }
-{
-    let seam = seam_run(element);
-    Figures {
-        first: element.longest.max(seam) as u64,
-        second: seam as u64,
-    }
-}
-
-// Whether the cell keeps what every summary keeps.
-fn is_sound(cell: &RunCell) -> bool
-    ensures { result ≡ sound cell.now.all cell.now.first cell.now.last cell.now.longest }
-{
-    if cell.all {
-        cell.first == cell.longest && cell.last == cell.longest
-    } else {
-        cell.first <= cell.longest && cell.last <= cell.longest
+    // The run that crosses from the last station to the first; where all are down, each counts once.
+    fn seam(&self) -> u32
+        ensures { result ≡ seam self.now }
+    {
+        let cell = self.cell;
+        if cell.all {
+            cell.first
+        } else {
+            cell.last.saturating_add(cell.first)
+        }
     }
 }
 
@@ -132,65 +88,68 @@ impl Kind for Runs {
     }
 
     fn single(&self, station: &Station) -> RunSummary {
-        let all = is_down(station.status);
-        even_run(all, run_of_one(all))
+        let down = station.status == Status::Down;
+        RunSummary::even(down, u32::from(down))
     }
 
     fn empty(&self) -> RunSummary {
-        even_run(true, 0)
+        RunSummary::even(true, 0)
     }
 
+    #[tactic(auto, using(crate::specs::Summaries::joined_sound))]
     fn join(&self, left: &RunSummary, right: &RunSummary) -> RunSummary
         ensures value { result ≡ joined_runs left.now right.now }
         ensures parts { Joined left.now right.now result }
     {
+        let (a, b) = (left.cell, right.cell);
         RunSummary {
-            all: left.all & right.all,
-            first: first_run(left, right),
-            last: last_run(left, right),
-            longest: longest_run(left, right),
+            cell: RunCell {
+                all: a.all & b.all,
+                first: carried_on(a.all, a.first, b.first),
+                last: carried_on(b.all, b.last, a.last),
+                longest: a.longest_with(&b),
+            },
         }
     }
 
     fn to_cell(&self, element: &RunSummary) -> RunCell {
-        RunCell {
-            all: element.all,
-            first: element.first,
-            last: element.last,
-            longest: element.longest,
-        }
+        element.cell
     }
 
     // A cell that breaks what every summary keeps stands for the empty one.
     fn from_cell(&self, cell: &RunCell) -> RunSummary {
-        if !is_sound(cell) {
+        if !cell.is_sound() {
             return self.empty();
         }
-        RunSummary {
-            all: cell.all,
-            first: cell.first,
-            last: cell.last,
-            longest: cell.longest,
-        }
+        RunSummary { cell: *cell }
     }
 
     // The longest run and the run at the front, of the stations that the summary was joined from.
+    #[tactic(auto, using(crate::specs::RunsMeant::runs_meant, crate::specs::RunsMeant::window_exactly))]
     fn window_figures(&self, element: &RunSummary) -> Figures
         ensures value { result ≡ runs_kind.window element.now }
         ensures says { WindowSays runs_kind runs_meaning element.now result }
         ensures exactly { WindowExactly element.now result }
     {
-        window_runs(element)
+        Figures {
+            first: u64::from(element.cell.longest),
+            second: u64::from(element.cell.first),
+        }
     }
 
     // The longest run around the ring and the run across the seam. Where all are down, it has each station once.
+    #[tactic(auto, using(crate::specs::RunsMeant::runs_meant, crate::specs::RunsMeant::ring_exactly, crate::specs::RunsMeant::whole_ring_down))]
     fn ring_figures(&self, element: &RunSummary) -> Figures
         ensures value { result ≡ runs_kind.ring element.now }
         ensures says { RingSays runs_kind runs_meaning element.now result }
         ensures exactly { RingExactly element.now result }
         ensures whole { WholeRingDown element.now result }
     {
-        ring_runs(element)
+        let seam = element.seam();
+        Figures {
+            first: u64::from(element.cell.longest.max(seam)),
+            second: u64::from(seam),
+        }
     }
 
     fn shortest_ring(&self) -> usize {

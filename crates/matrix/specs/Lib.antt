@@ -1,4 +1,3 @@
 pub mod Chain
-pub mod Entries
 pub mod Matrix
 pub mod Range

@@ -1,86 +1,70 @@
 // The product of two matrices, a row at a time, at a width that is known when it is compiled.
-ghost use Rattle.std.specs.Prelude.{◌≡◌, ℕ, ◌+◌, ◌*◌, ◌<◌, ◌≤◌, length, slice_index};
-ghost use Rattle.matrix.specs.Matrix.{at, entry, joined};
+ghost use Rattle.std.specs.Prelude.{◌≡◌, ℕ, ◌+◌, ◌*◌, ◌<◌, ◌≤◌, if◌then◌else◌, nat_lt, slice_index};
+ghost use Rattle.matrix.specs.Matrix.{at, row_entry, joined};
 
+use crate::chain::Chain;
 use crate::plain::Matrix;
-use crate::threshold::Threshold;
 use semiring::Semiring;
 
-// Adds x times row l of b to the first W codes of a row.
-fn add_row<S: Semiring, const W: usize>(
-    semiring: &S,
-    x: u64,
-    b: &Matrix,
-    l: usize,
-    row: &mut [u64; 9],
-)
-    requires width { W ≤ 9 }
-    requires line { l < 9 }
-    ensures { (q : ℕ) → q < W → slice_index row.new q ≡ (S.Semiring.ops semiring.now).sum (slice_index row.old q) ((S.Semiring.ops semiring.now).product x (at b.now l q)) }
-{
-    for j in 0..W {
-        let more = semiring.product(x, b.at(l, j));
-        row[j] = semiring.sum(row[j], more);
-    }
+// The used codes of a row of the product, as many as a row has or fewer.
+#[derive(Clone, Copy)]
+struct Used<const W: usize> {
+    codes: [u64; W],
+    ghost narrow: { W ≤ 9 },
 }
 
-// The first W codes of row i of the product. A code of a that is zero or no member adds nothing, so it is passed over.
-fn row_product<S: Semiring, const W: usize>(
-    semiring: &S,
-    a: &Matrix,
-    b: &Matrix,
-    i: usize,
-) -> [u64; 9]
-    requires width { W ≤ 9 }
-    requires line { i < 9 }
-    ensures { (q : ℕ) → q < W → slice_index result q ≡ entry (S.Semiring.ops semiring.now) W a.now b.now i q }
-{
-    let zero = semiring.zero();
-    let mut row = [zero; 9];
-    for l in 0..W {
-        let x = a.at(i, l);
-        if x != zero && semiring.is_member(x) {
-            add_row::<S, W>(semiring, x, b, l, &mut row);
+impl<S: Semiring> Chain<S> {
+    // Adds x times row l of b to a row of the product. Here and below the second list is read by index: with both lists zipped
+    // the proof did not close.
+    fn add_row<const W: usize>(&self, x: u64, b: &Matrix, l: usize, row: &mut Used<W>)
+        requires { l < 9 }
+        ensures { (q : ℕ) → q < W → slice_index row.new.codes q ≡ (S.Semiring.ops self.now.semiring).sum (slice_index row.old.codes q) ((S.Semiring.ops self.now.semiring).product x (at b.now l q)) }
+    {
+        for (j, code) in row.codes.iter_mut().enumerate() {
+            let more = self.semiring.product(x, b.rows[l][j]);
+            *code = self.semiring.sum(*code, more);
         }
     }
-    row
-}
 
-// Writes the first W codes of row i.
-fn put_row<const W: usize>(out: &mut Matrix, i: usize, row: &[u64; 9])
-    requires width { W ≤ 9 }
-    requires line { i < 9 }
-    ensures size { length out.new.codes ≡ 81 }
-    ensures written { (q : ℕ) → q < W → at out.new i q ≡ slice_index row.now q }
-    ensures before { (p : ℕ) → p < 9 * i → slice_index out.new.codes p ≡ slice_index out.old.codes p }
-    ensures after { (p : ℕ) → 9 * i + W ≤ p → slice_index out.new.codes p ≡ slice_index out.old.codes p }
-{
-    for j in 0..W {
-        out.codes[9 * i + j] = row[j];
+    // A row of the product, with 0 behind its used codes. A code that is zero or no member adds nothing, so it is passed over.
+    fn row_product<const W: usize>(&self, left: &[u64; 9], b: &Matrix) -> [u64; 9]
+        requires { W ≤ 9 }
+        ensures { (q : ℕ) → q < 9 → slice_index result q ≡ (if nat_lt q W then row_entry (S.Semiring.ops self.now.semiring) W left.now b.now q else 0) }
+    {
+        let zero = self.semiring.zero();
+        let mut used = Used { codes: [zero; W] };
+        for (l, &x) in left[..W].iter().enumerate() {
+            if x != zero && self.semiring.is_member(x) {
+                self.add_row(x, b, l, &mut used);
+            }
+        }
+        let mut row = [0; 9];
+        row[..W].copy_from_slice(&used.codes);
+        row
     }
-}
 
-// The product at the width W.
-fn join_width<S: Semiring, const W: usize>(semiring: &S, a: &Matrix, b: &Matrix) -> Matrix
-    requires { W ≤ 9 }
-    ensures { result ≡ joined (S.Semiring.ops semiring.now) W a.now b.now }
-{
-    let mut out = Matrix { codes: [0; 81] };
-    for i in 0..W {
-        let row = row_product::<S, W>(semiring, a, b, i);
-        put_row::<W>(&mut out, i, &row);
+    // The product at the width W.
+    fn join_width<const W: usize>(&self, a: &Matrix, b: &Matrix) -> Matrix
+        requires { W ≤ 9 }
+        ensures { result ≡ joined (S.Semiring.ops self.now.semiring) W a.now b.now }
+    {
+        let mut rows = [[0; 9]; 9];
+        for (i, row) in rows[..W].iter_mut().enumerate() {
+            *row = self.row_product::<W>(&a.rows[i], b);
+        }
+        Matrix { rows }
     }
-    out
-}
 
-// The product of the used codes, left times right, with 0 in the others.
-pub fn join<S: Semiring>(semiring: &S, threshold: Threshold, a: &Matrix, b: &Matrix) -> Matrix
-    ensures { result ≡ joined (S.Semiring.ops semiring.now) (2 * threshold.k + 1) a.now b.now }
-{
-    match threshold.k {
-        1 => join_width::<S, 3>(semiring, a, b),
-        2 => join_width::<S, 5>(semiring, a, b),
-        3 => join_width::<S, 7>(semiring, a, b),
-        _ => join_width::<S, 9>(semiring, a, b),
+    // The product of the used codes, left times right, with 0 in the others. Each k has a width that is known when it is compiled:
+    // with one that is not, counts and costs took 1.5 to 2 times as long.
+    pub fn join(&self, a: &Matrix, b: &Matrix) -> Matrix
+        ensures { result ≡ joined (S.Semiring.ops self.now.semiring) (2 * self.now.threshold.k + 1) a.now b.now }
+    {
+        match self.threshold.k {
+            1 => self.join_width::<3>(a, b),
+            2 => self.join_width::<5>(a, b),
+            3 => self.join_width::<7>(a, b),
+            _ => self.join_width::<9>(a, b),
+        }
     }
 }

@@ -1,25 +1,59 @@
-// The number k of neighbours down in a row that makes a failure.
-ghost use Rattle.std.specs.Prelude.{◌≡◌, ◌≤◌};
+// The number k of neighbours down in a row that makes a failure, and the chain of runs that it fixes.
+ghost use Rattle.std.specs.Prelude.{◌≡◌, ◌+◌, ◌*◌, ◌≤◌};
 ghost use Rattle.refusal.specs.Refusals.{told_as, answered};
+ghost use Rattle.matrix.specs.Chain.{up_to, down_to};
 ghost use Rattle.matrix.specs.Range.{threshold_refusal};
 
 use refusal::Refusal;
 
-#[derive(Clone, Copy)]
+#[derive(Clone, Copy, PartialEq, Eq, Debug)]
 pub struct Threshold {
     pub k: usize,
     ghost low: { 1 ≤ k },
     ghost high: { k ≤ 4 },
 }
 
-impl Threshold {
-    // A threshold from 1 to 4.
-    pub fn new(k: u64) -> Result<Threshold, Refusal>
-        ensures { told_as (λ t. t.k) result ≡ answered (threshold_refusal k) k }
-    {
-        if k < 1 || k > 4 {
-            return Err(Refusal::OutOfRange);
+// A threshold from 1 to 4.
+impl TryFrom<u64> for Threshold {
+    type Error = Refusal;
+
+    ghost try_from_gives = { λ k r. told_as (λ t. t.k) r ≡ answered (threshold_refusal k) k };
+
+    fn try_from(k: u64) -> Result<Threshold, Refusal> {
+        match k {
+            // a cast, since usize has no From<u64>
+            1..=4 => Ok(Threshold { k: k as usize }),
+            _ => Err(Refusal::OutOfRange),
         }
-        Ok(Threshold { k: k as usize })
+    }
+}
+
+impl Threshold {
+    // How many states the chain has: as many rows and columns of a matrix are used.
+    pub(crate) fn width(self) -> usize
+        ensures { result ≡ 2 * self.k + 1 }
+    {
+        2 * self.k + 1
+    }
+
+    // Where an up station leads to from a state.
+    pub(crate) fn after_up(self, state: usize) -> usize
+        ensures { result ≡ up_to self.k state }
+    {
+        if state < self.k { 0 } else { self.k }
+    }
+
+    // Where a down station leads to from a state.
+    pub(crate) fn after_down(self, state: usize) -> usize
+        ensures { result ≡ down_to self.k state }
+    {
+        let k = self.k;
+        if state >= k {
+            state.min(2 * k - 1) + 1
+        } else if state + 1 < k {
+            state + 1
+        } else {
+            2 * k
+        }
     }
 }

@@ -16,12 +16,12 @@ pub enum Refusal {
     RingTooShort,
 }
 
-impl Refusal {
-    // The panel's number of the refusal.
-    pub fn number(self) -> u8
-        ensures { result ≡ number self }
-    {
-        match self {
+// The panel's number of the refusal.
+impl From<Refusal> for u8 {
+    ghost from_gives = { λ refusal n. n ≡ number refusal };
+
+    fn from(refusal: Refusal) -> u8 {
+        match refusal {
             Refusal::OutOfRange => 1,
             Refusal::BadLabel => 4,
             Refusal::NotTaken => 5,

@@ -4,12 +4,12 @@ ghost use Rattle.std.proofs.Common.{rules};
 
 use crate::Semiring;
 
-#[derive(Clone, Copy)]
+#[derive(Clone, Copy, PartialEq, Eq, Debug)]
 pub struct Costs;
 
 const MOST: u64 = 1_000_000_000_000;
 
-// What cannot be had at any cost.
+// What cannot be had at any cost. A code and no Option, since records, nodes and texts hold plain 64-bit codes.
 const NONE: u64 = 1_000_000_000_001;
 
 impl Semiring for Costs {
@@ -29,6 +29,7 @@ impl Semiring for Costs {
         0
     }
 
+    // The test of members is written out: the check does not cover a shared function, since from its bound this impl leads back to it.
     fn sum(&self, x: u64, y: u64) -> u64 {
         if x > NONE || y > NONE {
             return NONE;

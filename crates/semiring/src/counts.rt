@@ -1,42 +1,28 @@
 // Counts: 0 to 1,000,000,000; sum and product stop there.
-ghost use Rattle.semiring.specs.Models.{counts};
-ghost use Rattle.semiring.specs.CountsLaws.{counts_lawful};
+ghost use Rattle.std.specs.Prelude.{min, nat_le};
+ghost use Rattle.semiring.specs.CountsLaws.{counts_small, counts_reduction};
 
-use crate::Semiring;
+use crate::reduced::Reduce;
 
-#[derive(Clone, Copy)]
+#[derive(Clone, Copy, PartialEq, Eq, Debug)]
 pub struct Counts;
 
 const MOST: u64 = 1_000_000_000;
 
-impl Semiring for Counts {
-    ghost ops = { λ _. counts };
+impl Reduce for Counts {
+    ghost member = { λ _ n. nat_le n 1000000000 };
 
-    ghost lawful = { λ _. counts_lawful };
+    ghost reduction = { λ _ n. min n 1000000000 };
 
-    fn is_member(&self, x: u64) -> bool {
-        x <= MOST
+    ghost small = { λ _. counts_small };
+
+    ghost lawful = { λ _. counts_reduction };
+
+    fn is_reduced(&self, n: u64) -> bool {
+        n <= MOST
     }
 
-    fn zero(&self) -> u64 {
-        0
-    }
-
-    fn one(&self) -> u64 {
-        1
-    }
-
-    fn sum(&self, x: u64, y: u64) -> u64 {
-        if x > MOST || y > MOST {
-            return 0;
-        }
-        (x + y).min(MOST)
-    }
-
-    fn product(&self, x: u64, y: u64) -> u64 {
-        if x > MOST || y > MOST {
-            return 0;
-        }
-        (x * y).min(MOST)
+    fn reduce(&self, n: u64) -> u64 {
+        n.min(MOST)
     }
 }

@@ -7,6 +7,7 @@ ghost use Rattle.semiring.specs.Algebra.{SemiringOps, SemiringLaws, sum_of, prod
 pub mod costs;
 pub mod counts;
 pub mod modulus;
+pub mod reduced;
 pub mod residues;
 
 // A semiring is a value, as a modulus says which residues are meant. Codes are unsigned 64-bit numbers;
@@ -36,20 +37,14 @@ pub trait Semiring: Copy {
 pub fn sum_all<S: Semiring>(semiring: &S, codes: &[u64]) -> u64
     ensures { result ≡ sum_of (S.Semiring.ops semiring.now) codes.now }
 {
-    let mut total = semiring.zero();
-    for code in codes {
-        total = semiring.sum(total, *code);
-    }
-    total
+    codes
+        .iter()
+        .fold(semiring.zero(), |total, code| semiring.sum(total, *code))
 }
 
-// The product of the codes, from one, left to right.
+// The product of the codes, from one, left to right. Each of the two is one call of `fold`, which is what they share.
 pub fn product_all<S: Semiring>(semiring: &S, codes: &[u64]) -> u64
     ensures { result ≡ product_of (S.Semiring.ops semiring.now) codes.now }
 {
-    let mut total = semiring.one();
-    for code in codes {
-        total = semiring.product(total, *code);
-    }
-    total
+    codes.iter().fold(semiring.one(), |total, code| semiring.product(total, *code))
 }

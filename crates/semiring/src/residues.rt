@@ -1,38 +1,24 @@
 // Residues by a modulus m: 0 to m - 1.
-ghost use Rattle.semiring.specs.Models.{residues};
-ghost use Rattle.semiring.specs.ResiduesLaws.{residues_lawful};
+ghost use Rattle.std.specs.Prelude.{◌%◌, nat_lt};
+ghost use Rattle.semiring.specs.ResiduesLaws.{residues_small, residues_reduction};
 
-use crate::Semiring;
 use crate::modulus::Residues;
+use crate::reduced::Reduce;
 
-impl Semiring for Residues {
-    ghost ops = { λ s. residues s.modulus };
+impl Reduce for Residues {
+    ghost member = { λ s n. nat_lt n s.modulus };
 
-    ghost lawful = { λ s. residues_lawful s.modulus s.low };
+    ghost reduction = { λ s n. n % s.modulus };
 
-    fn is_member(&self, x: u64) -> bool {
-        x < self.modulus
+    ghost small = { λ s. residues_small s.modulus s.high };
+
+    ghost lawful = { λ s. residues_reduction s.modulus s.low };
+
+    fn is_reduced(&self, n: u64) -> bool {
+        n < self.modulus
     }
 
-    fn zero(&self) -> u64 {
-        0
-    }
-
-    fn one(&self) -> u64 {
-        1
-    }
-
-    fn sum(&self, x: u64, y: u64) -> u64 {
-        if x >= self.modulus || y >= self.modulus {
-            return 0;
-        }
-        (x + y) % self.modulus
-    }
-
-    fn product(&self, x: u64, y: u64) -> u64 {
-        if x >= self.modulus || y >= self.modulus {
-            return 0;
-        }
-        (x * y) % self.modulus
+    fn reduce(&self, n: u64) -> u64 {
+        n % self.modulus
     }
 }

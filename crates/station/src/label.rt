@@ -1,7 +1,8 @@
 // Labels: 0 to 24 bytes, each from 20 to 7E hexadecimal.
-ghost use Rattle.std.specs.Prelude.{◌≡◌, ◌≤◌, true, length, take, IfOk, nat_le};
+ghost use Rattle.std.specs.Prelude.{◌≡◌, ◌≤◌, true, length, IfOk};
+ghost use Rattle.std.specs.List.{list_all};
 ghost use Rattle.refusal.specs.Refusals.{told, answered};
-ghost use Rattle.station.specs.Labels.{printable, printables, legal, label_refusal, padded, label_of, station_with};
+ghost use Rattle.station.specs.Labels.{printable, legal, label_refusal, padded, label_of, station_with};
 
 use crate::record::{Station, Status};
 use refusal::Refusal;
@@ -12,48 +13,31 @@ const ROOM: usize = 24;
 fn is_printable(byte: u8) -> bool
     ensures { result ≡ printable byte }
 {
-    byte >= 0x20 && byte <= 0x7e
-}
-
-// How many bytes come before the first that no label has.
-fn label_len(bytes: &[u8]) -> usize
-    ensures within { result ≤ length bytes.now }
-    ensures label { take result bytes.now ≡ label_of bytes.now }
-{
-    for (n, byte) in bytes.iter().enumerate() {
-        if !is_printable(*byte) {
-            return n;
-        }
-    }
-    bytes.len()
+    matches!(byte, 0x20..=0x7e)
 }
 
 // The bytes before the first that no label has.
 fn label_in(bytes: &[u8]) -> &[u8]
     ensures { result.now ≡ label_of bytes.now }
 {
-    let n = label_len(bytes);
-    &bytes[0..n]
-}
-
-// Whether the bytes have room in a record.
-fn is_short(bytes: &[u8]) -> bool
-    ensures { result ≡ nat_le (length bytes.now) 24 }
-{
-    bytes.len() <= ROOM
+    let end = bytes
+        .iter()
+        .position(|&byte| !is_printable(byte))
+        .unwrap_or(bytes.len());
+    &bytes[..end]
 }
 
 fn all_printable(bytes: &[u8]) -> bool
-    ensures { result ≡ printables bytes.now }
+    ensures { result ≡ list_all printable bytes.now }
 {
-    label_len(bytes) == bytes.len()
+    bytes.iter().all(|&byte| is_printable(byte))
 }
 
 // Whether the bytes are a label.
 fn is_legal(bytes: &[u8]) -> bool
     ensures { result ≡ legal bytes.now }
 {
-    is_short(bytes) && all_printable(bytes)
+    bytes.len() <= ROOM && all_printable(bytes)
 }
 
 // The label in a record's 24 bytes, with zeros behind it.
@@ -62,26 +46,13 @@ fn padded_label(bytes: &[u8]) -> [u8; 24]
     ensures { result ≡ padded bytes.now }
 {
     let mut room = [0u8; ROOM];
-    let n = bytes.len();
-    room[0..n].copy_from_slice(bytes);
+    room[..bytes.len()].copy_from_slice(bytes);
     room
-}
-
-// The record with a label that was tested.
-fn with_label(label: &[u8], status: Status, up: u64, down: u64) -> Station
-    requires { length label.now ≤ 24 }
-    ensures { result ≡ station_with label.now status up down }
-{
-    Station {
-        label: padded_label(label),
-        status,
-        up,
-        down,
-    }
 }
 
 impl Station {
     // A record with the label, which is tested before anything is copied.
+    #[tactic(auto, using(crate::proofs::Labelling::label_put))]
     pub fn new(label: &[u8], status: Status, up: u64, down: u64) -> Result<Station, Refusal>
         ensures value { told result ≡ answered (label_refusal label.now) (station_with label.now status up down) }
         ensures labelled { IfOk result (λ s. label_of s.label ≡ label.now) }
@@ -89,10 +60,16 @@ impl Station {
         if !is_legal(label) {
             return Err(Refusal::BadLabel);
         }
-        Ok(with_label(label, status, up, down))
+        Ok(Station {
+            label: padded_label(label),
+            status,
+            up,
+            down,
+        })
     }
 
     // The label's bytes: whatever the record's are, a label.
+    #[tactic(auto, using(crate::proofs::Labelling::label_legal))]
     pub fn label(&self) -> &[u8]
         ensures value { result.now ≡ label_of self.now.label }
         ensures legal { legal result.now ≡ true }

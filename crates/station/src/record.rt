@@ -9,7 +9,7 @@ pub enum Status {
 
 #[derive(Clone, Copy)]
 pub struct Station {
-    // room for the label: those bytes before the first that no label has, or all 24
+    // room for the label: those bytes before the first that no label has, or all 24; no String, as a record has fixed memory
     pub label: [u8; 24],
     pub status: Status,
     pub up: u64,

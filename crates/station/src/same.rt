@@ -6,13 +6,7 @@ ghost use Rattle.station.specs.SameLaws.{is_same_laws};
 
 use crate::record::Station;
 
-// Whether status and codes are equal.
-fn same_values(a: &Station, b: &Station) -> bool
-    ensures { Decides result ((a.now.status ≡ b.now.status) × ((a.now.up ≡ b.now.up) × (a.now.down ≡ b.now.down))) }
-{
-    a.status == b.status && a.up == b.up && a.down == b.down
-}
-
+// By hand, since what stands behind the label is no part of a record.
 impl PartialEq for Station {
     ghost eq = { is_same };
 
@@ -22,7 +16,7 @@ impl PartialEq for Station {
         ensures value { result ≡ is_same self.now other.now }
         ensures same { Decides result (Same self.now other.now) }
     {
-        let label = self.label() == other.label();
-        label & same_values(self, other)
+        self.label() == other.label()
+            && (self.status, self.up, self.down) == (other.status, other.up, other.down)
     }
 }

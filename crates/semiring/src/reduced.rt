@@ -1,0 +1,56 @@
+// Whole numbers under a reduction: the one implementation for counts and residues.
+ghost use Rattle.std.specs.Prelude.{◌≡◌, ℕ, ◌<◌, Bool, true};
+ghost use Rattle.semiring.specs.Models.{reduced};
+ghost use Rattle.semiring.specs.Reduced.{Reduction, reduced_lawful};
+
+use crate::Semiring;
+
+// Which numbers are members, and how another is made one. Members are small, so that their product is a 64-bit number.
+pub trait Reduce: Copy {
+    ghost member: { Self → ℕ → Bool };
+
+    ghost reduction: { Self → ℕ → ℕ };
+
+    fn is_reduced(&self, n: u64) -> bool
+        ensures { result ≡ member self.now n };
+
+    fn reduce(&self, n: u64) -> u64
+        ensures { result ≡ reduction self.now n };
+
+    ghost small: { (s : Self) (n : ℕ) → member s n ≡ true → n < 4294967296 };
+
+    ghost lawful: { (s : Self) → Reduction (member s) (reduction s) };
+}
+
+impl<R: Reduce> Semiring for R {
+    ghost ops = { λ r. reduced (R.Reduce.member r) (R.Reduce.reduction r) };
+
+    ghost lawful = { λ r. reduced_lawful (R.Reduce.member r) (R.Reduce.reduction r) (R.Reduce.lawful r) };
+
+    fn is_member(&self, x: u64) -> bool {
+        self.is_reduced(x)
+    }
+
+    fn zero(&self) -> u64 {
+        0
+    }
+
+    fn one(&self) -> u64 {
+        1
+    }
+
+    // Sum and product stay two: with the operation as a closure one function is longer, as it says when that may be called.
+    fn sum(&self, x: u64, y: u64) -> u64 {
+        if !self.is_reduced(x) || !self.is_reduced(y) {
+            return 0;
+        }
+        self.reduce(x + y)
+    }
+
+    fn product(&self, x: u64, y: u64) -> u64 {
+        if !self.is_reduced(x) || !self.is_reduced(y) {
+            return 0;
+        }
+        self.reduce(x * y)
+    }
+}
