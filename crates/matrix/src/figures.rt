@@ -19,7 +19,8 @@ impl<S: Semiring> Chain<S> {
         sum_all(&self.semiring, &row[column..column + count])
     }
 
-    // The sum of what the diagonal has that begins in row 0 at a column: count codes. A loop: as a fold the proof did not close.
+    // The sum of what the diagonal has that begins in row 0 at a column: count codes. A loop, which needs no answer: a fold over
+    // numbered rows is as long, and needs a lemma and an answer by hand.
     fn diagonal_sum(&self, m: &Matrix, column: usize, count: usize) -> u64
         requires { column + count ≤ 9 }
         ensures { result ≡ sum_over (S.Semiring.ops self.now.semiring) (λ j. at m.now j (column + j)) (range_with_len 0 count) }

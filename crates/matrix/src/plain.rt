@@ -8,7 +8,8 @@ pub struct Matrix {
     pub rows: [[u64; 9]; 9],
 }
 
-// Row i of the matrix that `from_fn` makes. Both are loops: of `array::from_fn` over a generic closure the proof did not close.
+// Row i of the matrix that `from_fn` makes. Both are loops: `array::from_fn` over a generic closure is no shorter, as the closure then
+// needs clauses of its own, and leaves goals that a loop does not.
 #[tactic(auto, using(crate::proofs::Tables::is_row))]
 fn row_from_fn<F: Fn(usize, usize) -> u64>(width: usize, i: usize, entry: &F) -> [u64; 9]
     requires { F.IsAlwaysCallable entry.now }

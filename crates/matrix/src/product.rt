@@ -14,8 +14,8 @@ struct Used<const W: usize> {
 }
 
 impl<S: Semiring> Chain<S> {
-    // Adds x times row l of b to a row of the product. Here and below the second list is read by index: with both lists zipped
-    // the proof did not close.
+    // Adds x times row l of b to a row of the product. Here and below the second list is read by index: zipped with one that
+    // is written, the check knows nothing of what the loop leaves.
     fn add_row<const W: usize>(&self, x: u64, b: &Matrix, l: usize, row: &mut Used<W>)
         requires { l < 9 }
         ensures { (q : ℕ) → q < W → slice_index row.new.codes q ≡ (S.Semiring.ops self.now.semiring).sum (slice_index row.old.codes q) ((S.Semiring.ops self.now.semiring).product x (at b.now l q)) }
