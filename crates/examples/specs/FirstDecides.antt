@@ -1,5 +1,6 @@
 -- A semiring in which the order of factors matters: 0 is zero, 2 is one, sum is the greater, and a product is its first factor that is
 -- not one, unless a factor is zero.
+-- Words: first_decides.
 use Rattle.std.specs.Prelude.{cond, max, ◌==◌, nat_le}
 use Rattle.semiring.specs.Algebra.{SemiringOps}
 use Rattle.semiring.specs.Models.{guarded}

@@ -1,5 +1,5 @@
--- The figures of the example rows, by the definitions: sums over all states of station records, and runs.
--- Words: station, even, priced, marked_four, defined.
+-- The figures of the example rows: by the definitions, as sums over all states of station records and as runs; and as the rulebook has them.
+-- Words: station, even, priced, marked_four, defined, rulebook.
 use Rattle.std.specs.Prelude.{List, [], ◌∷◌, ℕ, replicate, take, drop}
 use Rattle.semiring.specs.Models.{counts, residues, costs}
 use Rattle.station.specs.declared.record.Station.{Station}
@@ -7,6 +7,7 @@ use Rattle.station.specs.declared.record.Status.{Status}
 use Rattle.station.specs.declared.record.Status.TheVariants.{Judged, Down, Up}
 use Rattle.station.specs.Labels.{station_with}
 use Rattle.kind.specs.declared.figures.Figures.{Figures}
+use Rattle.kind.specs.Meaning.{both}
 use Rattle.kind.specs.Runs.{runs_meaning}
 use Rattle.kind.specs.Weights.{weights_meaning}
 use Rattle.examples.specs.declared.row.Row.{Row}
@@ -28,7 +29,7 @@ priced status = station status 0 2 ∷ station Judged 0 9 ∷ station Judged 0 4
 abbrev pub marked_four : List Station
 marked_four = station Down 0 0 ∷ station Down 0 0 ∷ station Up 0 0 ∷ station Down 0 0 ∷ []
 
--- what is asked of which stations
+-- what is asked of which stations, by the definitions
 abbrev pub defined : Row → Figures
 defined OneForTwo = (weights_meaning counts 2).window (even 1)
 defined OneForOne = (weights_meaning counts 1).window (even 1)
@@ -45,3 +46,21 @@ defined BreakWithoutFirst = (weights_meaning costs 2).ring (priced Up)
 defined FullCount = (weights_meaning counts 1).window (replicate 2 (station Judged 1 1000000000))
 defined Runs = runs_meaning.window marked_four
 defined RunsRing = runs_meaning.ring marked_four
+
+-- the figures that the rulebook has
+abbrev pub rulebook : Row → Figures
+rulebook OneForTwo = both 0 2
+rulebook OneForOne = both 1 1
+rulebook FourForTwo = both 8 8
+rulebook RingOfFour = both 9 7
+rulebook FiveForThree = both 8 24
+rulebook RingOfFive = both 11 21
+rulebook MiddleOfFive = both 1 7
+rulebook ResiduesOfFour = both 1 1
+rulebook ResiduesRing = both 2 0
+rulebook CheapestBreak = both 5 0
+rulebook CheapestRingBreak = both 3 0
+rulebook BreakWithoutFirst = both 5 0
+rulebook FullCount = both 1000000000 1
+rulebook Runs = both 2 2
+rulebook RunsRing = both 3 3

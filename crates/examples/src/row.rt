@@ -1,6 +1,6 @@
 // The rows, and their figures as the rulebook has them.
 ghost use Rattle.std.specs.Prelude.{◌≡◌};
-ghost use Rattle.examples.specs.Rows.{defined};
+ghost use Rattle.examples.specs.Rows.{defined, rulebook};
 
 use kind::figures::Figures;
 
@@ -32,9 +32,10 @@ pub enum Row {
 }
 
 impl Row {
-    // The row's two figures.
+    // The row's two figures: those that the definitions give, and those that the rulebook has.
     pub fn figures(self) -> Figures
-        ensures { result ≡ defined self }
+        ensures by_definition { result ≡ defined self }
+        ensures by_rulebook { result ≡ rulebook self }
     {
         let (first, second) = match self {
             Row::OneForTwo => (0, 2),

@@ -1,13 +1,7 @@
 // A ring main of a dozen stations: what it costs at least to break it, and how long a run is down.
-ghost use Rattle.std.specs.Prelude.{◌≡◌};
-ghost use Rattle.refusal.specs.Refusals.{told, answered};
-ghost use Rattle.kind.specs.Stretch.{window_refusal, ring_refusal};
-
 use crate::report;
 use crate::trouble::Trouble;
-use kind::Kind;
 use kind::runs::Runs;
-use kind::stretch::{ring_of, window_of};
 use kind::weights::Weights;
 use refusal::Refusal;
 use semiring::costs::Costs;
@@ -34,32 +28,19 @@ fn stations() -> Result<[Station; 12], Refusal> {
     ])
 }
 
-// The first figure of a window, as its kind means it: of costs the least cost of a failing state, of runs the longest run down.
-fn window_figure<K: Kind>(kind: &K, stations: &[Station]) -> Result<u64, Refusal>
-    ensures { told result ≡ answered (window_refusal (K.Kind.ops kind.now) stations.now) ((K.Kind.meaning kind.now).window stations.now).first }
-{
-    Ok(window_of(kind, stations)?.first)
-}
-
-// The same around a ring. Two functions: one that took the call to make as an argument would be no plainer.
-fn ring_figure<K: Kind>(kind: &K, stations: &[Station]) -> Result<u64, Refusal>
-    ensures { told result ≡ answered (ring_refusal (K.Kind.ops kind.now) stations.now) ((K.Kind.meaning kind.now).ring stations.now).first }
-{
-    Ok(ring_of(kind, stations)?.first)
-}
-
-// The stations, and the figures of places 2 to 9 and of the whole ring.
+// The stations, and the first figures of places 2 to 9 and of the whole ring: of costs the least cost of a failing state, of runs the
+// longest run down.
 fn figures(rt: &HostRuntime, list: &[Station; 12]) -> Result<(), Trouble> {
     let kind = Weights::new(Costs, IN_A_ROW)?;
     let stretch = &list[1..9];
     report::stations(rt, list)?;
-    let broken = window_figure(&kind, stretch)?;
+    let broken = kind.window_of(stretch)?.first;
     println!(rt; "cheapest break of places 2 to 9: {broken}")?;
-    let broken = ring_figure(&kind, list)?;
+    let broken = kind.ring_of(list)?.first;
     println!(rt; "cheapest break of the ring: {broken}")?;
-    let run = window_figure(&Runs, stretch)?;
+    let run = Runs.window_of(stretch)?.first;
     println!(rt; "longest run down in places 2 to 9: {run}")?;
-    let run = ring_figure(&Runs, list)?;
+    let run = Runs.ring_of(list)?.first;
     println!(rt; "longest run down on the ring: {run}")?;
     Ok(())
 }

@@ -1,13 +1,14 @@
 // The kind of weights: failing and working figures over any semiring.
 ghost use Rattle.std.specs.Prelude.{◌≡◌, IfOk};
-ghost use Rattle.refusal.specs.Refusals.{told_as, answered};
+ghost use Rattle.refusal.specs.Refusals.{told, told_as, answered};
 ghost use Rattle.matrix.specs.Range.{threshold_refusal};
-ghost use Rattle.kind.specs.Meaning.{WindowSays, RingSays};
+ghost use Rattle.kind.specs.Meaning.{WindowSays, RingSays, meant_window, meant_ring};
 ghost use Rattle.kind.specs.Weights.{weights_kind, weights_meaning};
 ghost use Rattle.kind.specs.WeightsMeant.{weights_lawful, weights_meant};
 
 use crate::Kind;
 use crate::figures::Figures;
+use crate::stretch::{ring_of, window_of};
 use matrix::chain::Chain;
 use matrix::plain::Matrix;
 use matrix::threshold::Threshold;
@@ -36,9 +37,23 @@ impl<S: Copy> Weights<S> {
     }
 }
 
-// The figures read off a matrix, each in a function that the search proves alone: a wrong sum is refused at its line. Window and ring
-// have other sums, and so a function each.
+// Window and ring have other sums, and so a function each.
 impl<S: Semiring> Weights<S> {
+    // Both figures of a stretch: the sums of the weights of all its failing states, and of all others.
+    pub fn window_of(&self, stations: &[Station]) -> Result<Figures, Refusal>
+        ensures { told result ≡ meant_window (weights_kind (S.Semiring.ops self.now.chain.semiring) self.now.chain.threshold.k) (weights_meaning (S.Semiring.ops self.now.chain.semiring) self.now.chain.threshold.k) stations.now }
+    {
+        window_of(self, stations)
+    }
+
+    // The same around the ring.
+    pub fn ring_of(&self, stations: &[Station]) -> Result<Figures, Refusal>
+        ensures { told result ≡ meant_ring (weights_kind (S.Semiring.ops self.now.chain.semiring) self.now.chain.threshold.k) (weights_meaning (S.Semiring.ops self.now.chain.semiring) self.now.chain.threshold.k) stations.now }
+    {
+        ring_of(self, stations)
+    }
+
+    // The figures read off a matrix, each in a function that the search proves alone: a wrong sum is refused at its line.
     fn window(&self, m: &Matrix) -> Figures
         ensures { result ≡ (weights_kind (S.Semiring.ops self.now.chain.semiring) self.now.chain.threshold.k).window m.now }
     {
