@@ -1,3 +1,4 @@
+-- The modules of this folder.
 pub mod Laws
 pub mod Meaning
 pub mod Runs

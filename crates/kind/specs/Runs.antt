@@ -28,7 +28,7 @@ summary e f l g = summary_if e f l g (sound e f l g) refl
 
 -- counts stop here
 abbrev pub capped : ℕ → ℕ
-capped n = min n 4294967295
+capped n = min n count_limit
 
 -- a run x that y carries on where all of x's stretch is down
 abbrev pub goes_on : Bool → ℕ → ℕ → ℕ

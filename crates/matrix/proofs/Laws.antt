@@ -1,5 +1,5 @@
 -- The product of fit matrices over a lawful semiring: associative, with the unit matrix neutral.
-use Rattle.std.proofs.Common.{◌≡◌, ℕ, ◌+◌, ◌*◌, ◌<◌, ◌≤◌, Bool, cond, ◌&&◌, eqb, ltb, sym, ◌∙◌, ap₂, arith}
+use Rattle.std.proofs.Common.{◌≡◌, ℕ, ◌+◌, ◌*◌, ◌<◌, ◌≤◌, Bool, cond, eqb, sym, ◌∙◌, arith}
 use Rattle.std.specs.List.{range_with_len}
 use Rattle.std.proofs.lemmas.Bool.Decides.{nat_tests}
 use Rattle.semiring.specs.Algebra.{SemiringOps, SemiringLaws, In, sum_over}
@@ -20,23 +20,6 @@ Fit-table S w f hw h = record {
 fit_is : (S : SemiringOps) (w : ℕ) (m : Matrix) → Fit S w m → m ≡ table w (at m)
 fit_is S w m fit = is_table w (at m) m fit.size fit.sizes (λ i j hi hj. grind (arith, nat_tests, fit.others i j))
 
--- a fit matrix as a function all of whose values are members: zero past the used codes
-abbrev pub full : SemiringOps → ℕ → Matrix → ℕ → ℕ → ℕ
-full S w m i j = cond (ltb i w && ltb j w) (at m i j) S.zero
-
-pub full_in : (S : SemiringOps) (L : SemiringLaws S) (w : ℕ) (m : Matrix) → Fit S w m → (i j : ℕ) → In S (full S w m i j)
-full_in S L w m fit i j = grind (arith, nat_tests, fit.members i j, L.zero_in)
-
-pub full_is : (S : SemiringOps) (w : ℕ) (m : Matrix) (i j : ℕ) → i < w → j < w → full S w m i j ≡ at m i j
-full_is S w m i j hi hj = grind (arith, nat_tests)
-
--- the product of such functions
-abbrev pub times : SemiringOps → ℕ → (ℕ → ℕ → ℕ) → (ℕ → ℕ → ℕ) → ℕ → ℕ → ℕ
-times S w F G i j = sum_over S (λ l. S.product (F i l) (G l j)) (range_with_len 0 w)
-
-entry-full : (S : SemiringOps) (w : ℕ) (a b : Matrix) (i j : ℕ) → i < w → j < w → entry S w a b i j ≡ times S w (full S w a) (full S w b) i j
-entry-full S w a b i j hi hj = sum_over_below S _ _ w (λ l hl. sym (ap₂ S.product (full_is S w a i l hi hl) (full_is S w b l j hl hj)))
-
 pub choice_in : (S : SemiringOps) (b : Bool) (x y : ℕ) → In S x → In S y → In S (cond b x y)
 choice_in S b x y hx hy = grind arith
 
@@ -50,16 +33,6 @@ module _ (S : SemiringOps) (L : SemiringLaws S) (w : ℕ) where
 
     pub Fit-joined : (a b : Matrix) → Fit S w a → Fit S w b → Fit S w (joined S w a b)
     Fit-joined a b fa fb = Fit-table S w (entry S w a b) small (λ i j hi hj. sum_over_member S L _ (range_with_len 0 w))
-
-    -- the used codes of a product
-    pub full-joined : (a b : Matrix) (i j : ℕ) → i < w → j < w → full S w (joined S w a b) i j ≡ times S w (full S w a) (full S w b) i j
-    full-joined a b i j hi hj =
-        full_is S w (joined S w a b) i j hi hj
-        ∙ at-table w (entry S w a b) i j small hi hj
-        ∙ entry-full S w a b i j hi hj
-
-    pub full-unit : (i j : ℕ) → i < w → j < w → full S w (unit_matrix S w) i j ≡ delta S i j
-    full-unit i j hi hj = full_is S w (unit_matrix S w) i j hi hj ∙ at-table w (delta S) i j small hi hj
 
     pub joined_assoc : (a b c : Matrix) → Fit S w a → Fit S w b → Fit S w c → joined S w (joined S w a b) c ≡ joined S w a (joined S w b c)
     joined_assoc a b c fa fb fc =

@@ -1,4 +1,5 @@
 -- The range of k, the number of neighbours down in a row that makes a failure.
+-- Words: threshold_refusal.
 use Rattle.std.specs.Prelude.{ℕ, not, ◌&&◌, [], ◌∷◌, Option, nat_le}
 use Rattle.refusal.specs.Refusals.{first}
 

@@ -47,7 +47,8 @@ impl<S: Semiring> Chain<S> {
         self.row_sum(&m.rows[0], 0, self.threshold.k)
     }
 
-    // On the ring: a state that ends in a run of j counts from row j on, where that run stands before it.
+    // On the ring: a state whose run at the end is j, below k, counts in row j, as if that run stood before the first station; one with
+    // k or more in row 0.
     pub fn ring_failing(&self, m: &Matrix) -> u64
         ensures { result ≡ ring_failing_of (S.Semiring.ops self.now.semiring) self.now.threshold.k m.now }
     {
@@ -56,7 +57,7 @@ impl<S: Semiring> Chain<S> {
         self.semiring.sum(m.rows[0][2 * k], across)
     }
 
-    // On the ring: a state that ends in a run of j, from row j back to column j, without a run of k.
+    // On the ring: a state whose run at the end is j counts in row j, and comes back to j where no run has k.
     pub fn ring_working(&self, m: &Matrix) -> u64
         ensures { result ≡ ring_working_of (S.Semiring.ops self.now.semiring) self.now.threshold.k m.now }
     {

@@ -1,1 +1,2 @@
+-- The modules of this folder.
 pub mod Refusals

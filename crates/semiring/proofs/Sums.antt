@@ -25,6 +25,14 @@ sum_over_below S f g n h =
 pub sum_over_cong : {X : Type 0} (S : SemiringOps) (f g : X → ℕ) (xs : List X) → ((x : X) → f x ≡ g x) → sum_over S f xs ≡ sum_over S g xs
 sum_over_cong {X} S f g xs h = ap (λ (k : X → ℕ). sum_over S k xs) (fun_ext h)
 
+-- equal on what is in the list
+pub sum_over_all : {X : Type 0} (S : SemiringOps) (P : X → Type 0) (f g : X → ℕ) (xs : List X) → AllByRecursion P xs → ((x : X) → P x → f x ≡ g x) → sum_over S f xs ≡ sum_over S g xs
+sum_over_all {X} S P f g xs all h = same S.zero xs all
+  where
+    same : (b : ℕ) (xs : List X) → AllByRecursion P xs → from S f b xs ≡ from S g b xs
+    same b [] all = refl
+    same b (x ∷ xs) all = cc (h x all.0, same (S.sum b (g x)) xs all.1)
+
 module _ (S : SemiringOps) (L : SemiringLaws S) where
   -- a sum is a member, whatever is added, and so is a product
   sum_member : (x y : ℕ) → In S (S.sum x y)
@@ -81,14 +89,6 @@ module _ {X : Type 0} (S : SemiringOps) (L : SemiringLaws S) where
 
   pub sum_over-sum : (f g : X → ℕ) (hf : (x : X) → In S (f x)) (hg : (x : X) → In S (g x)) (xs : List X) → sum_over S (λ x. S.sum (f x) (g x)) xs ≡ S.sum (sum_over S f xs) (sum_over S g xs)
   sum_over-sum f g hf hg xs = cc (L.sum-zero S.zero L.zero_in, from-sum f g hf hg S.zero S.zero xs L.zero_in L.zero_in)
-
-  -- equal on what is in the list
-  pub sum_over_all : (P : X → Type 0) (f g : X → ℕ) (hf : (x : X) → In S (f x)) (hg : (x : X) → In S (g x)) (xs : List X) → AllByRecursion P xs → ((x : X) → P x → f x ≡ g x) → sum_over S f xs ≡ sum_over S g xs
-  sum_over_all P f g hf hg xs all h = same S.zero xs all
-    where
-      same : (b : ℕ) (xs : List X) → AllByRecursion P xs → from S f b xs ≡ from S g b xs
-      same b [] all = refl
-      same b (x ∷ xs) all = cc (h x all.0, same (S.sum b (g x)) xs all.1)
 
 -- over a mapped list
 pub sum_over-map : {X Y : Type 0} (S : SemiringOps) (f : Y → ℕ) (g : X → Y) (xs : List X) → sum_over S f (map g xs) ≡ sum_over S (λ x. f (g x)) xs

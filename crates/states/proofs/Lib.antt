@@ -1,3 +1,4 @@
+-- The modules of this folder.
 pub mod Following
 pub mod Paths
 pub mod Places

@@ -7,9 +7,8 @@ use Rattle.semiring.specs.Algebra.{SemiringOps, SemiringLaws, In, sum_over}
 use Rattle.semiring.proofs.Sums.{sum_over_below, sum_over_cong, sum_over-sum, sum_over_pick, sum_over-append, sum_over-map, sum_over_member, times_sum_over, product_member}
 use Rattle.station.specs.declared.record.Station.{Station}
 use Rattle.matrix.specs.declared.plain.Matrix.{Matrix}
-use Rattle.matrix.specs.Matrix.{at, entry, delta, joined, unit_matrix, Fit}
+use Rattle.matrix.specs.Matrix.{at, entry, delta, joined, unit_matrix}
 use Rattle.matrix.specs.Chain.{up_to, down_to, step, station_matrix}
-use Rattle.matrix.proofs.Laws.{Fit-unit, Fit-joined, Fit-station}
 use Rattle.matrix.proofs.Tables.{at-table}
 use Rattle.states.specs.Runs.{State}
 use Rattle.states.specs.States.{states, weight_of, weights_in, weight}
@@ -85,11 +84,6 @@ module _ (S : SemiringOps) (L : SemiringLaws S) where
         times_sum_over S L _ (path_in k xs (cond d (down_to k i) (up_to k i)) j) (weight_of S x d) (m.0 d) (states xs)
         ∙ sum_over_cong S _ _ (states xs) (λ s. grind (arith, L.zero_right (weight_of S x d), m.0 d, weight-cons x xs d s m))
         ∙ sym (sum_over-map S (path S k (x ∷ xs) i j) (λ s. d ∷ s) (states xs))
-
-    -- the stations' matrices join to a fit one
-    pub Fit-chain : (xs : List Station) → Weighed S xs → Fit S (2 * k + 1) (chain S k xs)
-    Fit-chain [] m = Fit-unit S L (2 * k + 1) (omega arith)
-    Fit-chain (x ∷ xs) m = Fit-joined S L (2 * k + 1) (omega arith) (matrix_of S k x) (chain S k xs) (Fit-station S L k high _ _ (m.0 false) (m.0 true)) (Fit-chain xs m.1)
 
     -- an entry, as a sum over the states
     pub paths : (xs : List Station) → Weighed S xs → (i j : ℕ) → i < 2 * k + 1 → j < 2 * k + 1 → at (chain S k xs) i j ≡ sum_over S (path S k xs i j) (states xs)

@@ -11,7 +11,7 @@ use Rattle.matrix.specs.Chain.{failing_of, working_of, ring_failing_of, ring_wor
 use Rattle.states.specs.Runs.{State, rear, fails, ring_fails}
 use Rattle.states.specs.States.{states, weight, sum_of_states, failing, working, ring_failing, ring_working}
 use Rattle.states.proofs.Running.{front-longest, ring_is}
-use Rattle.states.proofs.Following.{led, last_run, peak, peak_is, last_run_is, last_run-peak, led_tells}
+use Rattle.states.proofs.Following.{led, last_run, peak, last_run-peak, led_tells}
 use Rattle.states.proofs.Paths.{Weighed, chain, weight_in, if_so, if_so_in, path, path_in, paths}
 
 -- a state says something of each station, and so does one with a station more
@@ -30,7 +30,7 @@ abbrev Comes : ℕ → State → ℕ → Type 0
 Comes k s j = ((peak j s < k) × (rear s < k) × (led k j s ≡ rear s)) ⊎ ((k ≤ peak j s) × (led k j s ≡ k + min k (rear s)))
 
 comes : (k : ℕ) (s : State) (j : ℕ) → k ≤ length s → j < k → Comes k s j
-comes k s j round hj = grind (arith, led_tells k j s, last_run_is j s, last_run-peak j s)
+comes k s j round hj = grind (arith, nat_tests, led_tells k j s, last_run-peak j s)
 
 module _ (S : SemiringOps) (L : SemiringLaws S) where
   -- the sum over those that pass
@@ -61,41 +61,41 @@ module _ (S : SemiringOps) (L : SemiringLaws S) where
     fails_at : (s : State) → adds (k + 1) (λ r. 0) (λ r. k + r) s ≡ if_so S (fails k s) (weight S xs s)
     fails_at s =
         found (k + 1) (min k (last_run 0 s)) (λ r. 0) (λ r. k + r) s (omega arith) (λ r hr e. omega (arith, led_tells k 0 s, last_run-peak 0 s))
-        ∙ grind (arith, nat_tests, led_tells k 0 s, last_run-peak 0 s, peak_is 0 s, front-longest s)
+        ∙ grind (arith, nat_tests, led_tells k 0 s, last_run-peak 0 s, front-longest s)
 
     works_at : (s : State) → adds k (λ r. 0) (λ r. r) s ≡ if_so S (not (fails k s)) (weight S xs s)
     works_at s =
         found k (min (k - 1) (last_run 0 s)) (λ r. 0) (λ r. r) s (omega arith) (λ r hr e. omega (arith, led_tells k 0 s))
-        ∙ grind (arith, nat_tests, led_tells k 0 s, last_run-peak 0 s, peak_is 0 s, front-longest s)
+        ∙ grind (arith, nat_tests, led_tells k 0 s, last_run-peak 0 s, front-longest s)
 
-    -- on the ring: the chain comes round to where it began only from a run as long as the one at the end, and from none where that has k or more
+    -- on the ring: a state whose run at the end is below k counts in the row of that run alone, and one with k or more in row 0 alone
     ring_fails_at : (s : State) → k ≤ length s → S.sum (path S k xs 0 (2 * k) s) (adds k (λ j. j) (λ j. k + j) s) ≡ if_so S (ring_fails k s) (weight S xs s)
     ring_fails_at s round =
         let p = min (k - 1) (rear s) in
         ap (S.sum (path S k xs 0 (2 * k) s)) (found k p (λ j. j) (λ j. k + j) s (omega arith) (λ j hj e. omega (arith, comes k s j)))
-        ∙ grind (arith, nat_tests, comes k s 0, comes k s p, peak_is p s, ring_is s, L.sum_comm (weight S xs s) S.zero, L.sum-zero, L.zero_in, weight_in S L xs s)
+        ∙ grind (arith, nat_tests, comes k s 0, comes k s p, ring_is s, L.sum_comm (weight S xs s) S.zero, L.sum-zero, L.zero_in, weight_in S L xs s)
 
     ring_works_at : (s : State) → k ≤ length s → adds k (λ j. j) (λ j. j) s ≡ if_so S (not (ring_fails k s)) (weight S xs s)
     ring_works_at s round =
         let p = min (k - 1) (rear s) in
-        found k p (λ j. j) (λ j. j) s (omega arith) (λ j hj e. omega (arith, comes k s j)) ∙ grind (arith, nat_tests, comes k s p, peak_is p s, ring_is s)
+        found k p (λ j. j) (λ j. j) s (omega arith) (λ j hj e. omega (arith, comes k s j)) ∙ grind (arith, nat_tests, comes k s p, ring_is s)
 
     -- the sum over the states that pass, where each adds its weight
-    passing : (test : State → Bool) (f : State → ℕ) → ((s : State) → In S (f s)) → ((s : State) → length s ≡ length xs → f s ≡ if_so S (test s) (weight S xs s)) → sum_over S f (states xs) ≡ sum_of_states S xs test
-    passing test f hf h =
-        sum_over_all S L (OfLength (length xs)) f _ hf (λ s. if_so_in S L (test s) (weight S xs s) (weight_in S L xs s)) (states xs) (recursion_from_All (OfLength (length xs)) (states xs) (length-states xs)) h
+    passing : (test : State → Bool) (f : State → ℕ) → ((s : State) → length s ≡ length xs → f s ≡ if_so S (test s) (weight S xs s)) → sum_over S f (states xs) ≡ sum_of_states S xs test
+    passing test f h =
+        sum_over_all S (OfLength (length xs)) f _ (states xs) (recursion_from_All (OfLength (length xs)) (states xs) (length-states xs)) h
         ∙ sym (kept_sum test (weight S xs) (weight_in S L xs) (states xs))
 
     pub window_sums : (failing_of S k (chain S k xs) ≡ failing S k xs) × (working_of S k (chain S k xs) ≡ working S k xs)
     window_sums = (
-      entries (k + 1) (λ r. 0) (λ r. k + r) (λ r hr. omega arith) ∙ passing (fails k) _ (adds_in (k + 1) (λ r. 0) (λ r. k + r)) (λ s e. fails_at s),
-      entries k (λ r. 0) (λ r. r) (λ r hr. omega arith) ∙ passing (λ s. not (fails k s)) _ (adds_in k (λ r. 0) (λ r. r)) (λ s e. works_at s),
+      entries (k + 1) (λ r. 0) (λ r. k + r) (λ r hr. omega arith) ∙ passing (fails k) _ (λ s e. fails_at s),
+      entries k (λ r. 0) (λ r. r) (λ r hr. omega arith) ∙ passing (λ s. not (fails k s)) _ (λ s e. works_at s),
     )
 
     pub ring_sums : k ≤ length xs → (ring_failing_of S k (chain S k xs) ≡ ring_failing S k xs) × (ring_working_of S k (chain S k xs) ≡ ring_working S k xs)
     ring_sums round = (
       ap₂ S.sum (paths S L k low high xs m 0 (2 * k) (omega arith) (omega arith)) (entries k (λ j. j) (λ j. k + j) (λ j hj. omega arith))
           ∙ sym (sum_over-sum S L _ _ (path_in S L k xs 0 (2 * k)) (adds_in k (λ j. j) (λ j. k + j)) (states xs))
-          ∙ passing (ring_fails k) _ (λ s. L.sum_in _ _ (path_in S L k xs 0 (2 * k) s) (adds_in k (λ j. j) (λ j. k + j) s)) (λ s e. ring_fails_at s (omega arith)),
-      entries k (λ j. j) (λ j. j) (λ j hj. omega arith) ∙ passing (λ s. not (ring_fails k s)) _ (adds_in k (λ j. j) (λ j. j)) (λ s e. ring_works_at s (omega arith)),
+          ∙ passing (ring_fails k) _ (λ s e. ring_fails_at s (omega arith)),
+      entries k (λ j. j) (λ j. j) (λ j hj. omega arith) ∙ passing (λ s. not (ring_fails k s)) _ (λ s e. ring_works_at s (omega arith)),
     )

@@ -1,3 +1,4 @@
+-- The modules of this folder.
 pub mod Labels
 pub mod Same
 pub mod Weights

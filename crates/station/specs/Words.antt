@@ -1,4 +1,5 @@
 -- The words for statuses, as bytes.
+-- Words: status_word.
 use Rattle.std.specs.Prelude.{ℕ, List, codes}
 use Rattle.station.specs.declared.record.Status.{Status}
 use Rattle.station.specs.declared.record.Status.TheVariants.{Judged, Down, Up, Bypass}

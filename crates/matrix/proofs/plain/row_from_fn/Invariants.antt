@@ -1,3 +1,4 @@
+-- Codes before the loop's place are the entries, or 0 where they are not used; those from it on are 0.
 use Rattle.std.proofs.Common.{◌≡◌, ℕ, ◌<◌, ◌≤◌, get_or}
 use Rattle.matrix.specs.Matrix.{used}
 use Rattle.matrix.proofs.plain.row_from_fn.Given as goal

@@ -1,3 +1,4 @@
+-- Codes before the loop's place have their sum; those from it on are as they were.
 use Rattle.std.proofs.Common.{◌≡◌, ℕ, ◌<◌, ◌≤◌, length, get_or}
 use Rattle.matrix.specs.Matrix.{at}
 use Rattle.matrix.proofs.chain.Chain.add_row.Given as goal

@@ -1,3 +1,4 @@
+-- The total is the sum of the codes that the loop has seen.
 use Rattle.std.proofs.Common.{◌≡◌, ◌+◌}
 use Rattle.std.specs.List.{range_with_len}
 use Rattle.semiring.specs.Algebra.{sum_over}

@@ -1,3 +1,4 @@
+-- A row written is a row of the product, and all used rows written are the product.
 use Rattle.std.proofs.Common.{arith}
 use Rattle.std.proofs.lemmas.Grind.{common_steps}
 use Rattle.matrix.specs.Matrix.{entry}

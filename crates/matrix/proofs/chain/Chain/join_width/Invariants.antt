@@ -1,3 +1,4 @@
+-- Rows before the loop's place are those of the product.
 use Rattle.std.proofs.Common.{◌≡◌, ℕ, ◌<◌, length, get_or, []}
 use Rattle.matrix.specs.Matrix.{table_row, entry}
 use Rattle.matrix.proofs.chain.Chain.join_width.Given as goal

@@ -1,3 +1,4 @@
+-- A left code adds its term, or is passed over since its term is zero.
 use Rattle.std.proofs.Common.{arith}
 use Rattle.std.proofs.lemmas.List.{places}
 use Rattle.matrix.proofs.Rows.{turn}

@@ -1,3 +1,4 @@
+-- Each code is the sum of the terms so far.
 use Rattle.std.proofs.Common.{◌≡◌, ℕ, ◌<◌, get_or}
 use Rattle.matrix.specs.Matrix.{row_entry}
 use Rattle.matrix.proofs.chain.Chain.row_product.Given as goal

@@ -1,3 +1,4 @@
+-- Rows before the loop's place are those of the table.
 use Rattle.std.proofs.Common.{◌≡◌, ℕ, [], ◌<◌, length, get_or}
 use Rattle.matrix.specs.Matrix.{table_row}
 use Rattle.matrix.proofs.plain.Matrix.from_fn.Given as goal
