@@ -37,7 +37,7 @@ impl<S: Copy> Weights<S> {
     }
 }
 
-// Window and ring have other sums, and so a function each.
+// Window and ring have other sums, and so a function each, of a stretch and of a matrix.
 impl<S: Semiring> Weights<S> {
     // Both figures of a stretch: the sums of the weights of all its failing states, and of all others.
     pub fn window_of(&self, stations: &[Station]) -> Result<Figures, Refusal>
