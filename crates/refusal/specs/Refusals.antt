@@ -2,12 +2,16 @@
 -- Words: number, told, told_as, first, answered.
 use Rattle.std.specs.Prelude.{ℕ, Bool, cond, List, [], ◌∷◌, Some, None, Ok, Err, Option, Result}
 use Rattle.refusal.specs.declared.Refusal.{Refusal}
-use Rattle.refusal.specs.declared.Refusal.TheVariants.{OutOfRange, BadLabel, NotTaken, RingTooShort}
+use Rattle.refusal.specs.declared.Refusal.TheVariants.{OutOfRange, SpaceTooShort, TooManyStations, BadLabel, NotTaken, OutsideLine, NoStation, RingTooShort}
 
 abbrev pub number : Refusal → ℕ
 number OutOfRange = 1
+number SpaceTooShort = 2
+number TooManyStations = 3
 number BadLabel = 4
 number NotTaken = 5
+number OutsideLine = 6
+number NoStation = 7
 number RingTooShort = 8
 
 -- an answer as the panel shows it: a value by what is read off it, or a refusal's number

@@ -8,10 +8,18 @@ ghost use Rattle.refusal.specs.Refusals.{number};
 pub enum Refusal {
     // k or m is outside its range
     OutOfRange,
+    // a space handed in is too short
+    SpaceTooShort,
+    // more stations than a line has room for
+    TooManyStations,
     // a label is too long, or has a byte that no label has
     BadLabel,
     // the kind does not take the record
     NotTaken,
+    // a place, or a window, is not one of the line's
+    OutsideLine,
+    // no station stands
+    NoStation,
     // fewer stations than the shortest ring
     RingTooShort,
 }
@@ -23,8 +31,12 @@ impl From<Refusal> for u8 {
     fn from(refusal: Refusal) -> u8 {
         match refusal {
             Refusal::OutOfRange => 1,
+            Refusal::SpaceTooShort => 2,
+            Refusal::TooManyStations => 3,
             Refusal::BadLabel => 4,
             Refusal::NotTaken => 5,
+            Refusal::OutsideLine => 6,
+            Refusal::NoStation => 7,
             Refusal::RingTooShort => 8,
         }
     }
