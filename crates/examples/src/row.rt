@@ -1,6 +1,8 @@
-// The rows, and their figures as the rulebook has them.
-ghost use Rattle.std.specs.Prelude.{◌≡◌};
-ghost use Rattle.examples.specs.Rows.{defined, rulebook};
+// The rows, and their answers as the rulebook has them.
+ghost use Rattle.std.specs.Prelude.{◌≡◌, length};
+ghost use Rattle.tree.specs.Shape.{height};
+ghost use Rattle.tree.specs.Blocks.{ListsLargest};
+ghost use Rattle.examples.specs.Rows.{question, question_blocks, defined, rulebook};
 
 use kind::figures::Figures;
 
@@ -31,29 +33,48 @@ pub enum Row {
     RunsRing,
 }
 
+// Two figures, and how many joins they take.
+#[derive(Clone, Copy, PartialEq, Eq, Debug)]
+pub struct Answer {
+    pub figures: Figures,
+    pub joins: usize,
+}
+
 impl Row {
-    // The row's two figures: those that the definitions give, and those that the rulebook has.
-    pub fn figures(self) -> Figures
+    // The row's answer: that which the definitions give, and that which the rulebook has. Its blocks are the largest whole ones.
+    pub fn answer(self) -> Answer
+        ensures by_definition { result ≡ defined self }
+        ensures by_rulebook { result ≡ rulebook self }
+        ensures blocks { let q = question self in ListsLargest (height (length q.stations)) q.first q.last (question_blocks q) }
+    {
+        self.numbers()
+    }
+
+    #[tactic(auto, using(crate::proofs::Answered::defined_is_rulebook))]
+    fn numbers(self) -> Answer
         ensures by_definition { result ≡ defined self }
         ensures by_rulebook { result ≡ rulebook self }
     {
-        let (first, second) = match self {
-            Row::OneForTwo => (0, 2),
-            Row::OneForOne => (1, 1),
-            Row::FourForTwo => (8, 8),
-            Row::RingOfFour => (9, 7),
-            Row::FiveForThree => (8, 24),
-            Row::RingOfFive => (11, 21),
-            Row::MiddleOfFive => (1, 7),
-            Row::ResiduesOfFour => (1, 1),
-            Row::ResiduesRing => (2, 0),
-            Row::CheapestBreak => (5, 0),
-            Row::CheapestRingBreak => (3, 0),
-            Row::BreakWithoutFirst => (5, 0),
-            Row::FullCount => (1_000_000_000, 1),
-            Row::Runs => (2, 2),
-            Row::RunsRing => (3, 3),
+        let (first, second, joins) = match self {
+            Row::OneForTwo => (0, 2, 0),
+            Row::OneForOne => (1, 1, 0),
+            Row::FourForTwo => (8, 8, 0),
+            Row::RingOfFour => (9, 7, 0),
+            Row::FiveForThree => (8, 24, 1),
+            Row::RingOfFive => (11, 21, 1),
+            Row::MiddleOfFive => (1, 7, 1),
+            Row::ResiduesOfFour => (1, 1, 0),
+            Row::ResiduesRing => (2, 0, 0),
+            Row::CheapestBreak => (5, 0, 0),
+            Row::CheapestRingBreak => (3, 0, 0),
+            Row::BreakWithoutFirst => (5, 0, 0),
+            Row::FullCount => (1_000_000_000, 1, 0),
+            Row::Runs => (2, 2, 0),
+            Row::RunsRing => (3, 3, 0),
         };
-        Figures { first, second }
+        Answer {
+            figures: Figures { first, second },
+            joins,
+        }
     }
 }
