@@ -11,3 +11,5 @@ mod semirings;
 mod stations;
 #[cfg(test)]
 mod stretches;
+#[cfg(test)]
+mod trees;

@@ -1,6 +1,9 @@
-// Prints the figures of a small ring main, and then those of the example rows in docs/rules/examples.md.
+// Prints the figures of a small ring main, those of a long main with its tree, and then those of the example rows in
+// docs/rules/examples.md.
 #![tactic(auto)]
 
+mod asked;
+mod long_main;
 mod report;
 mod ring_main;
 mod rows;
@@ -10,5 +13,6 @@ use trouble::Trouble;
 
 fn main(rt: HostRuntime) -> Result<(), Trouble> {
     ring_main::show(&rt)?;
+    long_main::show(&rt)?;
     rows::show(&rt)
 }

@@ -1,7 +1,6 @@
 // One line of output for each thing shown.
-use kind::Kind;
+use examples::row::Answer;
 use kind::figures::Figures;
-use kind::stretch::{ring_of, window_of};
 use refusal::Refusal;
 use station::record::Station;
 use std::io;
@@ -19,16 +18,17 @@ pub(crate) fn stations(rt: &HostRuntime, list: &[Station]) -> io::Result<()> {
     Ok(())
 }
 
-// Two figures, or the number of the refusal.
-fn figures(rt: &HostRuntime, what: &str, answer: Result<Figures, Refusal>) -> io::Result<()> {
+// Two figures and their joins, or the number of the refusal.
+pub(crate) fn answer(
+    rt: &HostRuntime,
+    what: &str,
+    answer: Result<Answer, Refusal>,
+) -> io::Result<()> {
     match answer {
-        Ok(Figures { first, second }) => println!(rt; "  {what}: {first}, {second}"),
+        Ok(Answer { figures, joins }) => {
+            let Figures { first, second } = figures;
+            println!(rt; "  {what}: {first}, {second}, {joins}")
+        }
         Err(refusal) => println!(rt; "  {what}: refused, {}", u8::from(refusal)),
     }
-}
-
-// The stations' figures as a window and as a ring.
-pub(crate) fn both<K: Kind>(rt: &HostRuntime, kind: &K, list: &[Station]) -> io::Result<()> {
-    figures(rt, "window", window_of(kind, list))?;
-    figures(rt, "ring", ring_of(kind, list))
 }

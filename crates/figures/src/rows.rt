@@ -1,29 +1,61 @@
-// The example rows: small lines whose figures are known.
+// The example rows: small lines whose answers are known, asked of a tree.
 ghost use Rattle.std.specs.Prelude.{◌≡◌, Ok, OnOk};
 ghost use Rattle.refusal.specs.Refusals.{told};
 ghost use Rattle.examples.specs.Rows.{defined};
 
-use crate::report;
 use crate::trouble::Trouble;
-use examples::row::Row;
-use kind::figures::Figures;
+use crate::{asked, report};
+use examples::row::{Answer, Row};
+use kind::Kind;
 use kind::runs::Runs;
-use kind::stretch::{ring_of, window_of};
 use kind::weights::Weights;
 use refusal::Refusal;
 use semiring::costs::Costs;
 use semiring::counts::Counts;
 use semiring::modulus::Residues;
 use station::record::{Station, Status};
+use tree::tree::Tree;
 
-// Ends the program where the monitor does not give the rulebook's figures.
-fn compare(row: Row, answer: Result<Figures, Refusal>) -> Result<(), Trouble>
+// As many nodes as five stations need.
+const ROOM: usize = 15;
+
+// Ends the program where the monitor does not give the rulebook's answer.
+fn compare(row: Row, answer: Result<Answer, Refusal>) -> Result<(), Trouble>
     ensures { OnOk result (told answer ≡ Ok (defined row)) }
 {
-    if answer? != row.figures() {
+    if answer? != row.answer() {
         return Err(Trouble::NotTheRulebook(row));
     }
     Ok(())
+}
+
+// What all of the stations give as a window and as the ring. A ring may be refused.
+#[derive(Clone, Copy)]
+struct Both {
+    window: Result<Answer, Refusal>,
+    ring: Result<Answer, Refusal>,
+}
+
+fn answers<K: Kind>(rt: &HostRuntime, kind: &K, list: &[Station]) -> Result<Both, Trouble> {
+    let mut nodes = vec![in rt.alloc(); kind.to_cell(&kind.empty()); ROOM]?;
+    let (tree, _) = Tree::fill(*kind, list, &mut nodes)?;
+    Ok(Both {
+        window: asked::whole(&tree, &nodes),
+        ring: asked::ring(&tree, &nodes),
+    })
+}
+
+fn show_both<K: Kind>(
+    rt: &HostRuntime,
+    what: &str,
+    kind: &K,
+    list: &[Station],
+) -> Result<Both, Trouble> {
+    let both = answers(rt, kind, list)?;
+    println!(rt; "{what}")?;
+    report::answer(rt, "window", both.window)?;
+    report::answer(rt, "ring", both.ring)?;
+    Ok(both)
 }
 
 fn judged(up: u64, down: u64) -> Result<Station, Refusal> {
@@ -33,53 +65,56 @@ fn judged(up: u64, down: u64) -> Result<Station, Refusal> {
 // Counts of stations with 1 and 1.
 fn even_counts(rt: &HostRuntime) -> Result<(), Trouble> {
     let five = [judged(1, 1)?; 5];
-    for (k, n) in [(2, 1), (1, 1), (2, 4), (3, 5), (3, 2)] {
-        println!(rt; "counts, k {k}, n {n}, each 1 and 1")?;
-        report::both(rt, &Weights::new(Counts, k)?, &five[0..n.min(5)])?;
-    }
     let one = Weights::new(Counts, 1)?;
     let two = Weights::new(Counts, 2)?;
-    compare(Row::OneForTwo, window_of(&two, &five[0..1]))?;
-    compare(Row::OneForOne, window_of(&one, &five[0..1]))?;
-    compare(Row::FourForTwo, window_of(&two, &five[0..4]))?;
-    compare(Row::RingOfFour, ring_of(&two, &five[0..4]))
+    let three = Weights::new(Counts, 3)?;
+    let row = show_both(rt, "counts, k 2, n 1, each 1 and 1", &two, &five[..1])?;
+    compare(Row::OneForTwo, row.window)?;
+    let row = show_both(rt, "counts, k 1, n 1, each 1 and 1", &one, &five[..1])?;
+    compare(Row::OneForOne, row.window)?;
+    let row = show_both(rt, "counts, k 2, n 4, each 1 and 1", &two, &five[..4])?;
+    compare(Row::FourForTwo, row.window)?;
+    compare(Row::RingOfFour, row.ring)?;
+    let row = show_both(rt, "counts, k 3, n 5, each 1 and 1", &three, &five)?;
+    compare(Row::FiveForThree, row.window)?;
+    compare(Row::RingOfFive, row.ring)?;
+    show_both(rt, "counts, k 3, n 2, each 1 and 1", &three, &five[..2])?;
+    middle(rt, &three, &five)
 }
 
-fn counts(rt: &HostRuntime) -> Result<(), Trouble> {
-    let five = [judged(1, 1)?; 5];
-    let three = Weights::new(Counts, 3)?;
+fn middle<K: Kind>(rt: &HostRuntime, kind: &K, five: &[Station]) -> Result<(), Trouble> {
+    let mut nodes = vec![in rt.alloc(); kind.to_cell(&kind.empty()); ROOM]?;
+    let (tree, _) = Tree::fill(*kind, five, &mut nodes)?;
+    let answer = asked::window(&tree, &nodes, 2, 4);
     println!(rt; "counts, k 3, places 2 to 4 of 5, each 1 and 1")?;
-    report::both(rt, &three, &five[1..4])?;
-    compare(Row::FiveForThree, window_of(&three, &five))?;
-    compare(Row::RingOfFive, ring_of(&three, &five))?;
-    compare(Row::MiddleOfFive, window_of(&three, &five[1..4]))?;
-    println!(rt; "counts, k 1, n 2, each 1 and 1000000000")?;
+    report::answer(rt, "window", answer)?;
+    compare(Row::MiddleOfFive, answer)
+}
+
+fn full_counts(rt: &HostRuntime) -> Result<(), Trouble> {
     let one = Weights::new(Counts, 1)?;
     let full = [judged(1, 1_000_000_000)?; 2];
-    report::both(rt, &one, &full)?;
-    compare(Row::FullCount, window_of(&one, &full))
+    let row = show_both(rt, "counts, k 1, n 2, each 1 and 1000000000", &one, &full)?;
+    compare(Row::FullCount, row.window)
 }
 
 fn residues(rt: &HostRuntime) -> Result<(), Trouble> {
     let two = Weights::new(Residues::try_from(7u64)?, 2)?;
     let four = [judged(1, 1)?; 4];
-    println!(rt; "residues by 7, k 2, n 4, each 1 and 1")?;
-    report::both(rt, &two, &four)?;
-    compare(Row::ResiduesOfFour, window_of(&two, &four))?;
-    compare(Row::ResiduesRing, ring_of(&two, &four))
+    let row = show_both(rt, "residues by 7, k 2, n 4, each 1 and 1", &two, &four)?;
+    compare(Row::ResiduesOfFour, row.window)?;
+    compare(Row::ResiduesRing, row.ring)
 }
 
 fn costs(rt: &HostRuntime) -> Result<(), Trouble> {
     let mut four = [judged(0, 2)?, judged(0, 9)?, judged(0, 4)?, judged(0, 1)?];
     let two = Weights::new(Costs, 2)?;
-    println!(rt; "costs, k 2, n 4, up 0, down 2, 9, 4, 1")?;
-    report::both(rt, &two, &four)?;
-    compare(Row::CheapestBreak, window_of(&two, &four))?;
-    compare(Row::CheapestRingBreak, ring_of(&two, &four))?;
+    let row = show_both(rt, "costs, k 2, n 4, up 0, down 2, 9, 4, 1", &two, &four)?;
+    compare(Row::CheapestBreak, row.window)?;
+    compare(Row::CheapestRingBreak, row.ring)?;
     four[0].status = Status::Up;
-    println!(rt; "costs, k 2, the same with place 1 up")?;
-    report::both(rt, &two, &four)?;
-    compare(Row::BreakWithoutFirst, ring_of(&two, &four))
+    let row = show_both(rt, "costs, k 2, the same with place 1 up", &two, &four)?;
+    compare(Row::BreakWithoutFirst, row.ring)
 }
 
 fn runs(rt: &HostRuntime) -> Result<(), Trouble> {
@@ -88,16 +123,15 @@ fn runs(rt: &HostRuntime) -> Result<(), Trouble> {
     for (station, status) in four.iter_mut().zip(statuses) {
         station.status = status;
     }
-    println!(rt; "runs, n 4, down, down, up, down")?;
-    report::both(rt, &Runs, &four)?;
-    compare(Row::Runs, window_of(&Runs, &four))?;
-    compare(Row::RunsRing, ring_of(&Runs, &four))
+    let row = show_both(rt, "runs, n 4, down, down, up, down", &Runs, &four)?;
+    compare(Row::Runs, row.window)?;
+    compare(Row::RunsRing, row.ring)
 }
 
 pub(crate) fn show(rt: &HostRuntime) -> Result<(), Trouble> {
-    println!(rt; "Example rows: failing and working, or longest and front run")?;
+    println!(rt; "Example rows: failing, working and joins, or longest run, front run and joins")?;
     even_counts(rt)?;
-    counts(rt)?;
+    full_counts(rt)?;
     residues(rt)?;
     costs(rt)?;
     runs(rt)
