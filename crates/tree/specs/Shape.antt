@@ -1,6 +1,6 @@
 -- The shape of a tree over n stations: its height, its leaves, its nodes, and which numbers of stations are refused.
--- Words: most_stations, height_from, height, IsHeight, leaf, node_count, shape_refusal.
-use Rattle.std.specs.Prelude.{ℕ, zero, suc, ◌+◌, ◌-◌, ◌*◌, ◌^◌, ◌≤◌, cond, [], ◌∷◌, Option, nat_lt, nat_le, ◌==◌}
+-- Words: most_stations, height_from, height, IsHeight, leaf, node_count, shape_checks, shape_refusal.
+use Rattle.std.specs.Prelude.{ℕ, zero, suc, ◌+◌, ◌-◌, ◌*◌, ◌^◌, ◌≤◌, Bool, cond, List, [], ◌∷◌, Option, nat_lt, nat_le, ◌==◌}
 use Rattle.refusal.specs.Refusals.{first}
 
 -- as many as a line has room for
@@ -29,5 +29,9 @@ leaf h p = 2 ^ h + p - 1
 abbrev pub node_count : ℕ → ℕ
 node_count h = 2 * 2 ^ h - 1
 
+-- no station, or more than a line has room for
+abbrev pub shape_checks : ℕ → List (Bool × ℕ)
+shape_checks n = (n == 0, 7) ∷ (nat_lt most_stations n, 3) ∷ []
+
 abbrev pub shape_refusal : ℕ → Option ℕ
-shape_refusal n = first ((n == 0, 7) ∷ (nat_lt most_stations n, 3) ∷ [])
+shape_refusal n = first (shape_checks n)
