@@ -2,7 +2,7 @@
 -- Words: number, told, told_as, first, answered.
 use Rattle.std.specs.Prelude.{ℕ, Bool, cond, List, [], ◌∷◌, Some, None, Ok, Err, Option, Result}
 use Rattle.refusal.specs.declared.Refusal.{Refusal}
-use Rattle.refusal.specs.declared.Refusal.TheVariants.{OutOfRange, SpaceTooShort, TooManyStations, BadLabel, NotTaken, OutsideLine, NoStation, RingTooShort}
+use Rattle.refusal.specs.declared.Refusal.TheVariants.{OutOfRange, SpaceTooShort, TooManyStations, BadLabel, NotTaken, OutsideLine, NoStation, RingTooShort, TrialOpen, NoTrial, JournalFull, BadEntry}
 
 abbrev pub number : Refusal → ℕ
 number OutOfRange = 1
@@ -13,6 +13,10 @@ number NotTaken = 5
 number OutsideLine = 6
 number NoStation = 7
 number RingTooShort = 8
+number TrialOpen = 9
+number NoTrial = 10
+number JournalFull = 11
+number BadEntry = 12
 
 -- an answer as the panel shows it: a value by what is read off it, or a refusal's number
 abbrev pub told_as : {A B : Type 0} → (A → B) → Result A Refusal → Result B ℕ

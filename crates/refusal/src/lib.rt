@@ -22,6 +22,14 @@ pub enum Refusal {
     NoStation,
     // fewer stations than the shortest ring
     RingTooShort,
+    // a trial is open
+    TrialOpen,
+    // no trial is open
+    NoTrial,
+    // in a trial, no room is left in the journal
+    JournalFull,
+    // a journal entry cannot be put back: its place, or the record that it gives
+    BadEntry,
 }
 
 // The panel's number of the refusal.
@@ -38,6 +46,10 @@ impl From<Refusal> for u8 {
             Refusal::OutsideLine => 6,
             Refusal::NoStation => 7,
             Refusal::RingTooShort => 8,
+            Refusal::TrialOpen => 9,
+            Refusal::NoTrial => 10,
+            Refusal::JournalFull => 11,
+            Refusal::BadEntry => 12,
         }
     }
 }
