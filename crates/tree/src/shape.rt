@@ -8,7 +8,7 @@ use crate::leaves::Leaves;
 use refusal::Refusal;
 
 // As many stations as a line has room for.
-const MOST_STATIONS: usize = 4096;
+pub const MOST_STATIONS: usize = 4096;
 
 #[derive(Clone, Copy, PartialEq, Eq, Debug)]
 pub struct Shape {

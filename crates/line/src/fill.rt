@@ -1,0 +1,73 @@
+// What add and close do.
+ghost use Rattle.std.specs.Prelude.{◌≡◌, ◌-◌, ◌^◌, length, take, IfOk, OnOk, OnErr};
+ghost use Rattle.refusal.specs.Refusals.{told_as, answered};
+ghost use Rattle.tree.specs.Shape.{height, node_count};
+ghost use Rattle.tree.specs.Nodes.{StandsFor, SameBehind};
+ghost use Rattle.line.specs.Refused.{close_refusal};
+ghost use Rattle.line.specs.Calls.{AddCall, CloseCall};
+
+use crate::lines::{Filling, Standing};
+use crate::values::Values;
+use kind::Kind;
+use refusal::Refusal;
+use station::record::Station;
+use tree::shape::MOST_STATIONS;
+use tree::tree::Tree;
+
+impl<K: Kind> Filling<K> {
+    // What `add` does. The record goes into the list once it has passed each test.
+    pub(crate) fn do_add(
+        &mut self,
+        list: &mut [Station],
+        label: &[u8],
+        values: Values,
+    ) -> Result<usize, Refusal>
+        ensures { AddCall (K.Kind.ops self.old.kind) label.now values self.old list.old result self.new list.new }
+    {
+        let n = self.stations;
+        if n >= MOST_STATIONS {
+            return Err(Refusal::TooManyStations);
+        }
+        if list.len() <= n {
+            return Err(Refusal::SpaceTooShort);
+        }
+        let station = Station::new(label, values.status, values.up, values.down)?;
+        if !self.kind.takes(&station) {
+            return Err(Refusal::NotTaken);
+        }
+        list[n] = station;
+        self.stations = n + 1;
+        Ok(n + 1)
+    }
+
+    // What `close` does.
+    pub(crate) fn do_close(
+        self,
+        list: &[Station],
+        nodes: &mut [K::Cell],
+    ) -> Result<(Standing<K>, usize), (Filling<K>, Refusal)>
+        ensures { CloseCall (K.Kind.ops self.kind) self list.now nodes.old result nodes.new }
+    {
+        match self.fill_tree(list, nodes) {
+            Ok((tree, joins)) => Ok((Standing { tree, trial: None }, joins)),
+            Err(refusal) => Err((self, refusal)),
+        }
+    }
+
+    // The tree over the stations. Filling it tests first whether there is a station (7); no list is too short for none, so 7 still comes first.
+    fn fill_tree(
+        &self,
+        list: &[Station],
+        nodes: &mut [K::Cell],
+    ) -> Result<(Tree<K>, usize), Refusal>
+        ensures answer { told_as (λ r. r.1) result
+            ≡ answered (close_refusal self.now.stations (length list.now) (length nodes.old)) (2 ^ height self.now.stations - 1) }
+        ensures tree { IfOk result (λ r. (r.0.kind ≡ self.now.kind) × (r.0.shape.stations ≡ self.now.stations)) }
+        ensures refused { OnErr result (nodes.new ≡ nodes.old) }
+        ensures stands { OnOk result (StandsFor (K.Kind.ops self.now.kind) (take self.now.stations list.now) nodes.new) }
+        ensures behind { OnOk result (SameBehind (node_count (height self.now.stations)) nodes.old nodes.new) }
+    {
+        let stations = list.get(..self.stations).ok_or(Refusal::SpaceTooShort)?;
+        Tree::fill(self.kind, stations, nodes)
+    }
+}

@@ -1,0 +1,85 @@
+// What set does: an entry in the journal, other values at a place, nodes renewed.
+ghost use Rattle.std.specs.Prelude.{◌≡◌, ◌-◌, ◌<◌, ◌≤◌, true, Some, Ok, length, slice_get};
+ghost use Rattle.tree.specs.Shape.{height, leaf, node_count};
+ghost use Rattle.tree.specs.Nodes.{Rewritten};
+ghost use Rattle.line.specs.View.{put};
+ghost use Rattle.line.specs.State.{at, count_of, entries_of, in_trial};
+ghost use Rattle.line.specs.Calls.{SetCall, Renewed, one_more, entered};
+
+use crate::lines::Standing;
+use crate::rooms::Rooms;
+use crate::values::{Entry, Values};
+use kind::Kind;
+use refusal::Refusal;
+use station::record::Station;
+
+impl<K: Kind> Standing<K> {
+    // What `set` does: first the entry, while the old values still stand.
+    pub(crate) fn do_set(
+        &mut self,
+        list: &mut [Station],
+        nodes: &mut [K::Cell],
+        journal: &mut [Entry],
+        place: usize,
+        values: Values,
+    ) -> Result<usize, Refusal>
+        ensures { SetCall (K.Kind.ops self.old.tree.kind) place values (at self.old list.old nodes.old journal.old) result
+            (at self.new list.new nodes.new journal.new) }
+    {
+        let rooms = Rooms::of(list, nodes, journal);
+        let old = self.check_set(list, rooms, place, values)?;
+        self.enter(journal, place, &old);
+        self.replace(list, nodes, place, values)
+    }
+
+    // In a trial, enters place and values of a station in the journal, behind the other entries.
+    fn enter(&mut self, journal: &mut [Entry], place: usize, station: &Station)
+        requires { in_trial self.old.trial ≡ true → entries_of self.old.trial < length journal.old }
+        ensures line { self.new ≡ record { tree = self.old.tree; trial = one_more self.old.trial } }
+        ensures journal { journal.new ≡ entered self.old.trial place (Some station.now) journal.old }
+    {
+        if let Some(entries) = self.trial {
+            let values = Values::of(station);
+            journal[entries] = Entry { place, values };
+            self.trial = Some(entries + 1);
+        }
+    }
+
+    // Puts other values at a place, and renews its leaf and the nodes above it.
+    #[tactic(auto, using(crate::proofs::Undoing::renewed))]
+    pub(crate) fn replace(
+        &self,
+        list: &mut [Station],
+        nodes: &mut [K::Cell],
+        place: usize,
+        values: Values,
+    ) -> Result<usize, Refusal>
+        requires from { 1 ≤ place }
+        requires to { place ≤ count_of self.now }
+        requires list { count_of self.now ≤ length list.old }
+        requires nodes { node_count (height (count_of self.now)) ≤ length nodes.old }
+        ensures done { result ≡ Ok (height (count_of self.now)) }
+        ensures list { list.new ≡ put list.old place values }
+        ensures nodes { Renewed (K.Kind.ops self.now.tree.kind) (count_of self.now) place list.new nodes.old nodes.new }
+    {
+        let station = values.on(&list[place - 1]);
+        list[place - 1] = station;
+        self.renew(nodes, place, &station)
+    }
+
+    // Writes the leaf of a place for a station, and rejoins the nodes above it.
+    fn renew(
+        &self,
+        nodes: &mut [K::Cell],
+        place: usize,
+        station: &Station,
+    ) -> Result<usize, Refusal>
+        requires from { 1 ≤ place }
+        requires to { place ≤ count_of self.now }
+        requires nodes { node_count (height (count_of self.now)) ≤ length nodes.old }
+        ensures done { result ≡ Ok (height (count_of self.now)) }
+        ensures nodes { Rewritten (K.Kind.ops self.now.tree.kind) (leaf (height (count_of self.now)) place) ((K.Kind.ops self.now.tree.kind).single station.now) nodes.old nodes.new }
+    {
+        self.tree.write(nodes, place, station)
+    }
+}
