@@ -277,9 +277,10 @@ def main():
     both("runs, n 4, down, down, up, down", lambda ring: runs(line, ring), 4, 1)
 
 
-if sys.argv[1:] == ["--stretches"]:
-    stretches()
-elif sys.argv[1:] == ["--trees"]:
-    trees()
-else:
-    main()
+if __name__ == "__main__":
+    if sys.argv[1:] == ["--stretches"]:
+        stretches()
+    elif sys.argv[1:] == ["--trees"]:
+        trees()
+    else:
+        main()
