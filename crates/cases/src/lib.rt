@@ -4,7 +4,13 @@
 #[cfg(test)]
 mod kinds;
 #[cfg(test)]
+mod lines;
+#[cfg(test)]
+mod lines_refused;
+#[cfg(test)]
 mod refused;
+#[cfg(test)]
+mod requests;
 #[cfg(test)]
 mod semirings;
 #[cfg(test)]
