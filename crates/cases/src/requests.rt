@@ -9,9 +9,9 @@ use kind::figures::Figures;
 use kind::runs::Runs;
 use kind::weights::Weights;
 use line::lines::{Filling, Line};
-use line::shipped::{play_runs, play_weights};
-use line::reply::{Reply, Told};
+use line::reply::{CellAnswer, Reply};
 use line::request::Request;
+use line::shipped::{play_runs, play_weights};
 use line::values::{Entry, Values};
 use refusal::Refusal;
 use semiring::counts::Counts;
@@ -35,7 +35,7 @@ fn ask(first: usize, last: usize) -> Request<'static> {
 }
 
 fn told<C>(cell: C, first: u64, second: u64, joins: usize) -> Reply<C> {
-    Reply::Told(Told {
+    Reply::Told(CellAnswer {
         cell,
         figures: Figures { first, second },
         joins,
@@ -46,7 +46,12 @@ fn told<C>(cell: C, first: u64, second: u64, joins: usize) -> Reply<C> {
 fn without_cell<C: Copy>(reply: &Reply<C>) -> Reply<()> {
     match *reply {
         Reply::Done(number) => Reply::Done(number),
-        Reply::Told(Told { figures, joins, .. }) => told((), figures.first, figures.second, joins),
+        Reply::Told(CellAnswer { figures, joins, .. }) => told(
+            (),
+            figures.first,
+            figures.second,
+            joins,
+        ),
         Reply::Refused(refusal) => Reply::Refused(refusal),
         Reply::OutOfTurn => Reply::OutOfTurn,
     }

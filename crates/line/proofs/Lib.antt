@@ -7,5 +7,6 @@ pub mod Filling
 pub mod Keeping
 pub mod Asking
 pub mod Stepping
+pub mod Determined
 pub mod Playing
 pub mod Meanings

@@ -93,6 +93,7 @@ module _ {E C : Type 0} (o : KindOps E C) (m n : Meaning)
     points = law.points;
     agrees = law.agrees;
     each = law.each;
+    cut = law.cut;
     replies = λ i q r at_q at_r.
         let right = law.replies i q r at_q at_r in
         let point = law.points i (omega (arith, slice_get_within qs i q at_q)) in

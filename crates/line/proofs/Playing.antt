@@ -19,9 +19,10 @@ use Rattle.line.specs.View.{Heard, silence, heard_on}
 use Rattle.line.specs.State.{State, at, rooms}
 use Rattle.line.specs.Replies.{took}
 use Rattle.line.specs.Law.{RightReply}
-use Rattle.line.specs.Steps.{kind_of, Steps, Plays}
+use Rattle.line.specs.Steps.{kind_of, with_line, StepOf, Steps, Plays}
 use Rattle.line.specs.History.{heard_from, heard, AgreesIn, Agrees, IsNew, PlayedNew, Point, Law, History}
 use Rattle.line.proofs.Placing.{take_whole, set_own, take_one_more}
+use Rattle.line.proofs.Determined.{filling_once, standing_once}
 use Rattle.line.proofs.Stepping.{step_rooms, step_law}
 
 take_next : {X : Type 0} (xs : List X) (i : ℕ) (x : X) → slice_get xs i ≡ Some x → take (i + 1) xs ≡ take i xs ++ x ∷ []
@@ -65,6 +66,37 @@ module _ {K E C : Type 0} (o : KindOps E C) where
   plays_each [] rs s t (none, is) = ap length none
   plays_each (q ∷ qs) [] s t plays = absurd plays
   plays_each (q ∷ qs) (r ∷ rs) s t (mid, step, plays) = ap suc (plays_each qs rs mid t plays)
+
+  -- a request leads to one reply and one line with its spaces, and so do any requests
+  step_once : (s : State (Line K) C) (q : Request) (r r' : Reply C) (t t' : State (Line K) C) → Steps o s q r t → Steps o s q r' t' → (r ≡ r') × (t ≡ t')
+  step_once s q r r' t t' a b = with_it s.line a b where
+    with_it : (line : Line K) → StepOf o line s q r t → StepOf o line s q r' t' → (r ≡ r') × (t ≡ t')
+    with_it (FillingLine line) a b = filling_once o (with_line line s) q r r' t t' a b
+    with_it (StandingLine line) (u, a, is) (u', b, is') =
+        let (reply, left) = standing_once o (with_line line s) q r r' u u' a b in
+        (reply, is ∙ ap (λ v. with_line (StandingLine v.line) v) left ∙ sym is')
+
+  plays_once : (qs : List Request) (rs rs' : List (Reply C)) (s t t' : State (Line K) C) → Plays o s qs rs t → Plays o s qs rs' t' → (rs ≡ rs') × (t ≡ t')
+  plays_once [] rs rs' s t t' (none, is) (none', is') = (none ∙ sym none', is ∙ sym is')
+  plays_once (q ∷ qs) [] rs' s t t' a b = absurd a
+  plays_once (q ∷ qs) (r ∷ rs) [] s t t' a b = absurd b
+  plays_once (q ∷ qs) (r ∷ rs) (r' ∷ rs') s t t' (mid, step, a) (mid', step', b) =
+      let (reply, left) = step_once s q r r' mid mid' step step' in
+      let (replies, end) = plays_once qs rs rs' mid t t' a (rw left b) in
+      (ap (λ x. x ∷ rs) reply ∙ ap (λ xs. r' ∷ xs) replies, end)
+
+  -- two plays one after the other are one
+  plays-append : (xs ys : List Request) (one two : List (Reply C)) (s mid t : State (Line K) C) → Plays o s xs one mid → Plays o mid ys two t
+      → Plays o s (xs ++ ys) (one ++ two) t
+  plays-append [] ys [] two s mid t (none, is) b = rw (← is) b
+  plays-append [] ys (r ∷ one) two s mid t (none, is) b = absurd (grind (arith, none))
+  plays-append (x ∷ xs) ys [] two s mid t a b = absurd a
+  plays-append (x ∷ xs) ys (r ∷ one) two s mid t (next, step, a) b = (next, step, plays-append xs ys one two next mid t a b)
+
+  cut_once : (qs xs ys : List Request) (rs one two : List (Reply C)) (s mid t t' : State (Line K) C) → Plays o s qs rs t → qs ≡ xs ++ ys
+      → Plays o s xs one mid → Plays o mid ys two t' → (one ++ two ≡ rs) × (t' ≡ t)
+  cut_once qs xs ys rs one two s mid t t' plays is a b =
+      plays_once (xs ++ ys) (one ++ two) rs s t' t (plays-append xs ys one two s mid t' a b) (subst (λ l. Plays o s l rs t) is plays)
 
   -- cut in two behind the first k
   pub record Cut (qs : List Request) (rs : List (Reply C)) (s t : State (Line K) C) (k : ℕ) : Type 0 where
@@ -150,6 +182,7 @@ module _ {K E C : Type 0} (o : KindOps E C) where
     plays_law k qs rs s t new plays = record {
       points = λ i few. point k qs rs s t new plays i;
       each = plays_each qs rs s t plays;
+      cut = λ xs ys one two mid end is a b. cut_once qs xs ys rs one two s mid t end plays is a b;
       replies = right_at k qs rs s t new plays;
       agrees = stays qs rs s t silence plays (new_agrees k s new);
     }

@@ -1,6 +1,6 @@
 -- The law of every history: any requests, starting from a line with no station.
 -- Words: heard_from, heard, AgreesIn, Agrees, LineGoesOn, IsNew, PlayedNew, Point, Law, History, play_refusal.
-use Rattle.std.specs.Prelude.{◌≡◌, ℕ, ◌≤◌, true, List, [], ◌∷◌, Option, Some, length, nat_lt, take, drop, slice_get}
+use Rattle.std.specs.Prelude.{◌≡◌, ℕ, ◌≤◌, true, List, [], ◌∷◌, ◌++◌, Option, Some, length, nat_lt, take, drop, slice_get}
 use Rattle.refusal.specs.Refusals.{first}
 use Rattle.station.specs.declared.record.Station.{Station}
 use Rattle.kind.specs.Laws.{KindOps}
@@ -81,6 +81,9 @@ module _ {K E C : Type 0} (o : KindOps E C) where
     pub each : length rs ≡ length qs
     pub replies : (i : ℕ) (q : Request) (r : Reply C) → slice_get qs i ≡ Some q → slice_get rs i ≡ Some r
         → RightReply o m (rooms start) (heard (take i qs) (take i rs)) q r
+    -- the requests cut in two and played one part after the other give the same replies and the same end
+    pub cut : (xs ys : List Request) (one two : List (Reply C)) (mid end : State (Line K) C) → qs ≡ xs ++ ys
+        → Plays o start xs one mid → Plays o mid ys two end → (one ++ two ≡ rs) × (end ≡ after)
     -- what is known of the line when all have been played
     pub agrees : Agrees (heard qs rs) after
 
