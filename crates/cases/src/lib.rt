@@ -2,6 +2,8 @@
 #![tactic(auto)]
 
 #[cfg(test)]
+mod fillings;
+#[cfg(test)]
 mod kinds;
 #[cfg(test)]
 mod lines;

@@ -13,7 +13,7 @@ use station::record::{Station, Status};
 use std::process::Abort;
 use std::test::Fail;
 
-// What the spaces hold before a line writes them: no label, no code that residues have, no summary, and no place.
+// What the spaces hold before a line writes them: no label, no code that residues by 7 have, no summary, and no place.
 pub(crate) const NO_STATION: Station = Station {
     label: [0xff; 24],
     status: Status::Bypass,
@@ -84,10 +84,10 @@ pub(crate) fn closed<K: Kind>(
     Ok(close(line, list, nodes)?.0)
 }
 
-// The figures and joins of an answer, or the panel's number.
+// Figures and joins, or the panel's number.
 pub(crate) type Says = Result<(u64, u64, usize), u8>;
 
-// A window's answer says this, and so does the ring's.
+// The answer to a question says this.
 pub(crate) fn says<E: Copy>(rt: &impl Abort, answer: Result<Answer<E>, Refusal>, expected: Says) {
     let said = match answer {
         Ok(Answer { figures, joins, .. }) => Ok((figures.first, figures.second, joins)),
@@ -96,7 +96,7 @@ pub(crate) fn says<E: Copy>(rt: &impl Abort, answer: Result<Answer<E>, Refusal>,
     assert_eq!(rt; said, expected);
 }
 
-// A call's answer is this number, or the panel's.
+// Another call answers this number, or is refused with the panel's.
 pub(crate) fn answers(
     rt: &impl Abort,
     answer: Result<usize, Refusal>,
@@ -111,10 +111,9 @@ fn the_example_session(rt: HostRuntime) -> Result<(), Fail> {
     let mut nodes = [NO_MATRIX; 7];
     let mut journal = [NO_ENTRY; 1];
     let mut line = Filling::new(Weights::new(Counts, 2)?);
-    let labels: [&[u8]; 3] = [b"A", b"B", b"C"];
-    for (n, label) in (1usize..).zip(labels) {
-        answers(&rt, line.add(&mut list, label, JUDGED), Ok(n));
-    }
+    answers(&rt, line.add(&mut list, b"A", JUDGED), Ok(1));
+    answers(&rt, line.add(&mut list, b"B", JUDGED), Ok(2));
+    answers(&rt, line.add(&mut list, b"C", JUDGED), Ok(3));
     let (mut line, joins) = close(line, &list, &mut nodes)?;
     assert_eq!(rt; joins, 3);
     let whole = Ok((19, 981, 1));
@@ -137,31 +136,57 @@ fn the_example_session(rt: HostRuntime) -> Result<(), Fail> {
     Ok(())
 }
 
-// The nodes are changed behind the line's back: node 9 is place 2, node 5 places 3 and 4, node 12 place 5, and node 2 places 1 to 4. What
-// no summary has counts as the empty one.
-#[test]
-fn garbage_is_used_as_it_is(rt: HostRuntime) -> Result<(), Fail> {
-    let mut list = [NO_STATION; 5];
+// Node 9 is place 2, node 5 places 3 and 4, node 12 place 5, and node 2 places 1 to 4. What no summary has counts as the empty one.
+fn garbage() -> [RunCell; 15] {
     let mut nodes = [NO_RUNS; 15];
-    let mut journal = [NO_ENTRY; 1];
-    let mut line = closed(Runs, &mut list, &mut nodes, &[JUDGED; 5])?;
-    nodes = [NO_RUNS; 15];
     nodes[1] = cell(false, 3, 4, 6);
     nodes[8] = cell(true, 7, 7, 7);
     nodes[11] = cell(false, 2, 1, 8);
-    says(&rt, line.ask(&list, &nodes, &journal, 2, 5), Ok((9, 9, 2)));
-    says(&rt, line.ring(&list, &nodes, &journal), Ok((8, 4, 1)));
-    // a label stays, whatever it is, and the trial has no entries, whatever the journal holds
-    list[4] = NO_STATION;
-    answers(&rt, line.open_trial(), Ok(0));
-    answers(&rt, line.back(&mut list, &mut nodes, &journal), Ok(0));
+    nodes
+}
+
+// The nodes are changed behind the line's back.
+#[test]
+fn garbage_in_the_nodes(rt: HostRuntime) -> Result<(), Fail> {
+    let mut list = [NO_STATION; 5];
+    let mut nodes = [NO_RUNS; 15];
+    let mut line = closed(Runs, &mut list, &mut nodes, &[JUDGED; 5])?;
+    nodes = garbage();
+    says(&rt, line.ask(&list, &nodes, &[], 2, 5), Ok((9, 9, 2)));
+    says(&rt, line.ring(&list, &nodes, &[]), Ok((8, 4, 1)));
     answers(
         &rt,
-        line.set(&mut list, &mut nodes, &mut journal, 5, DOWN),
+        line.set(&mut list, &mut nodes, &mut [], 5, DOWN),
         Ok(3),
     );
-    assert!(rt; list[4].label == NO_STATION.label && Values::of(&list[4]) == DOWN);
-    assert!(rt; nodes[11] == cell(true, 1, 1, 1) && nodes[0] == cell(false, 3, 5, 6));
-    assert_eq!(rt; journal, [NO_ENTRY; 1]);
+    let mut written = garbage();
+    written[11] = cell(true, 1, 1, 1);
+    written[5] = cell(true, 1, 1, 1);
+    written[2] = cell(true, 1, 1, 1);
+    written[0] = cell(false, 3, 5, 6);
+    assert!(rt; nodes == written);
+    Ok(())
+}
+
+// A trial begins with no entry, whatever the journal holds, and a label stays, whatever it is.
+#[test]
+fn garbage_in_list_and_journal(rt: HostRuntime) -> Result<(), Fail> {
+    let mut list = [NO_STATION; 1];
+    let mut nodes = [NO_RUNS; 1];
+    let mut journal = [NO_ENTRY; 1];
+    let mut line = closed(Runs, &mut list, &mut nodes, &[JUDGED; 1])?;
+    list = [NO_STATION; 1];
+    answers(&rt, line.open_trial(), Ok(0));
+    answers(&rt, line.back(&mut list, &mut nodes, &journal), Ok(0));
+    answers(&rt, line.open_trial(), Ok(0));
+    answers(
+        &rt,
+        line.set(&mut list, &mut nodes, &mut journal, 1, DOWN),
+        Ok(0),
+    );
+    says(&rt, line.ring(&list, &nodes, &journal), Ok((1, 1, 0)));
+    answers(&rt, line.back(&mut list, &mut nodes, &journal), Ok(1));
+    says(&rt, line.ring(&list, &nodes, &journal), Ok((0, 0, 0)));
+    assert!(rt; untouched(&list));
     Ok(())
 }

@@ -1,5 +1,5 @@
-// Requests played on a line: the rulebook's session, requests that the line, as it stands, does not take, trials, and the longest line. What
-// they answer is worked out by hand from the stations.
+// Requests played on a line: the rulebook's session, requests that the line, as it stands, does not take, and trials. What they answer is
+// worked out by hand from the stations.
 use crate::lines::{
     DOWN, JUDGED, NO_ENTRY, NO_MATRIX, NO_RUNS, NO_STATION, cell, closed, untouched,
 };
@@ -8,7 +8,7 @@ use kind::Kind;
 use kind::figures::Figures;
 use kind::runs::Runs;
 use kind::weights::Weights;
-use line::lines::{Filling, Line};
+use line::lines::Line;
 use line::reply::{CellAnswer, Reply};
 use line::request::Request;
 use line::shipped::{play_runs, play_weights};
@@ -57,6 +57,7 @@ fn without_cell<C: Copy>(reply: &Reply<C>) -> Reply<()> {
     }
 }
 
+// The replies are these, and no more.
 fn are<C: Copy>(rt: &impl Abort, replies: &[Reply<C>], expected: &[Reply<()>]) {
     assert_eq!(rt; replies.len(), expected.len());
     for (reply, expected) in replies.iter().zip(expected) {
@@ -118,7 +119,7 @@ fn the_example_session_as_requests(rt: HostRuntime) -> Result<(), Fail> {
     Ok(())
 }
 
-// Each request that a filling or a standing line does not take.
+// Each request that a filling line does not take, and then each that a standing one does not.
 const OUT_OF_TURN: [Request<'static>; 13] = [
     Request::Set {
         place: 1,
@@ -190,7 +191,7 @@ fn a_place_too_few_for_the_replies(rt: HostRuntime) {
     assert!(rt; replies == [Reply::Done(77); 12]);
 }
 
-// Plays requests on from a line as it stands, each of which gets its reply.
+// Plays requests on from a line as it stands, each of which gets the reply beside it.
 fn goes_on<K: Kind>(
     rt: &impl Abort,
     line: Line<K>,
@@ -214,10 +215,15 @@ const JUDGED_LATER: Values = Values {
     down: 6,
 };
 
+// At the first five places stand these.
 fn stand(rt: &impl Abort, list: &[Station], stations: [Values; 5]) {
     for (station, values) in list.iter().zip(stations) {
         assert_eq!(rt; Values::of(station), values);
     }
+}
+
+fn entry(place: usize, values: Values) -> Entry {
+    Entry { place, values }
 }
 
 // One station set twice: back puts the first values there again, and keep leaves the last. The second trial begins with the entries of
@@ -245,7 +251,6 @@ fn a_trial_taken_back_and_one_kept(rt: HostRuntime) -> Result<(), Fail> {
         (ask(1, 5), told((), 2, 0, 1)),
     ];
     let line = goes_on(&rt, line, &mut list, &mut nodes, &mut journal, &trial);
-    let entry = |place, values| Entry { place, values };
     assert!(rt; journal == [entry(3, JUDGED), entry(3, DOWN), entry(1, DOWN), NO_ENTRY]);
     let line = goes_on(&rt, line, &mut list, &mut nodes, &mut journal, &back);
     stand(&rt, &list, stations);
@@ -254,30 +259,5 @@ fn a_trial_taken_back_and_one_kept(rt: HostRuntime) -> Result<(), Fail> {
     let _line = goes_on(&rt, line, &mut list, &mut nodes, &mut journal, &keep);
     stand(&rt, &list, [JUDGED, DOWN, JUDGED_LATER, DOWN, DOWN]);
     assert!(rt; untouched(&list[5..]) && nodes[15] == NO_RUNS);
-    Ok(())
-}
-
-// All are down but the last of the first half, and then that one too.
-#[test]
-fn the_longest_line(rt: HostRuntime) -> Result<(), Fail> {
-    let mut list = vec![in rt.alloc(); NO_STATION; 4097]?;
-    let mut nodes = vec![in rt.alloc(); NO_RUNS; 8191]?;
-    let mut line = Filling::new(Runs);
-    for n in 1..=4096usize {
-        let values = if n == 2048 { JUDGED } else { DOWN };
-        assert_eq!(rt; line.add(&mut list, b"", values)?, n);
-    }
-    let requests = [
-        (add(b""), Reply::Refused(Refusal::TooManyStations)),
-        (Request::Close, Reply::Done(4095)),
-        (ask(2, 4095), told((), 2047, 2046, 21)),
-        (Request::Ring, told((), 4095, 4095, 0)),
-        (set(2048, DOWN), Reply::Done(12)),
-        (ask(2, 4095), told((), 4094, 4094, 21)),
-        (Request::Ring, told((), 4096, 4096, 0)),
-    ];
-    let line = Line::Filling(line);
-    let _line = goes_on(&rt, line, &mut list, &mut nodes, &mut [], &requests);
-    assert!(rt; list.get(4096..).is_some_and(untouched));
     Ok(())
 }

@@ -53,7 +53,8 @@ module _ {K E C : Type 0} (o : KindOps E C) where
     pub kind : line.kind ≡ k
     pub none : line.stations ≡ 0
 
-  -- what some line of the kind has in its nodes, on which any requests were played, in any spaces, and which has these standing stations
+  -- the nodes of some line of the kind on which any requests were played, in any spaces, a close accepted among them, and which has these
+  -- standing stations
   pub record PlayedNew (k : K) (stations : List Station) (nodes : List C) : Type 0 where
     pub start : State (Line K) C
     pub new : IsNew k start
@@ -65,7 +66,8 @@ module _ {K E C : Type 0} (o : KindOps E C) where
     pub standing : (heard qs rs).view.standing ≡ stations
     pub left : after.nodes ≡ nodes
 
-  -- a point of a history: some requests have been played, the line and its spaces agree with what was heard, and the others are played from there;
+  -- a point of a history: some requests have been played, the line and its spaces agree with what was heard, and the others are played
+  -- from there;
   -- once a close was accepted, the nodes are cell by cell those of any other line of the kind that has these stations
   pub record Point (k : K) (qs : List Request) (rs : List (Reply C)) (start after : State (Line K) C) (i : ℕ) : Type 0 where
     pub now : State (Line K) C

@@ -1,5 +1,6 @@
 -- When each call is refused: by the number of stations, the trial's entries, the stations, and the room that the caller's spaces have.
--- Words: lacks_room, no_window, takes_at, cannot_put, any_bad, then a refusal for each call.
+-- Words: lacks_room, rooms_refusal, no_window, takes_with, takes_at, cannot_put, any_bad, add_refusal, set_refusal, ring_refusal,
+-- close_refusal, try_refusal, keep_refusal, back_refusal, ask_refusal.
 use Rattle.std.specs.Prelude.{ℕ, Bool, true, false, not, ◌&&◌, ◌||◌, ◌-◌, List, [], ◌∷◌, Option, Some, None, nat_lt, nat_le, ◌==◌, slice_get}
 use Rattle.refusal.specs.Refusals.{first}
 use Rattle.station.specs.declared.record.Station.{Station}

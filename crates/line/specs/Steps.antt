@@ -26,7 +26,7 @@ abbrev pub with_line : {L M C : Type 0} → M → State L C → State M C
 with_line line s = at line s.list s.nodes s.journal
 
 module _ {K E C : Type 0} (o : KindOps E C) where
-  -- a request to a filling line: of the spaces, add changes the list alone and close the nodes alone
+  -- a request to a filling line: of the spaces, add changes only the list, and close only the nodes
   abbrev pub FillingStep : State (Filling K) C → Request → Reply C → State (Line K) C → Type 0
   FillingStep s (Add label v) reply t =
       (line : Filling K) × (list : List Station) × (r : Result ℕ Refusal) × AddCall o label.now v s.line s.list r line list
@@ -41,7 +41,7 @@ module _ {K E C : Type 0} (o : KindOps E C) where
   FillingStep s (Ask from to) reply t = (reply ≡ OutOfTurn) × (t ≡ with_line (FillingLine s.line) s)
   FillingStep s Ring reply t = (reply ≡ OutOfTurn) × (t ≡ with_line (FillingLine s.line) s)
 
-  -- a request to a standing line; a question changes nothing, and try and keep the line alone
+  -- a request to a standing line; a question changes nothing, and try and keep change only the line
   abbrev pub StandingStep : State (Standing K) C → Request → Reply C → State (Standing K) C → Type 0
   StandingStep s (Add label v) reply t = (reply ≡ OutOfTurn) × (t ≡ s)
   StandingStep s Close reply t = (reply ≡ OutOfTurn) × (t ≡ s)

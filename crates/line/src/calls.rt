@@ -1,5 +1,6 @@
 // The calls on a line. Clause `call` says what each answers and leaves, whatever the spaces hold; clause `law` says that a line which
-// agrees with what was heard of its calls goes on to, with the right reply.
+// agreed with what was heard of its calls still agrees after this one, and that the reply is right; clause `answer` says what is
+// answered to a question on such a line.
 ghost use Rattle.std.specs.Prelude.{◌≡◌, List, IfOk, length};
 ghost use Rattle.station.specs.declared.record.Station.{Station};
 ghost use Rattle.line.specs.declared.rooms.Rooms.{Rooms};
@@ -77,7 +78,7 @@ impl<K: Kind> Standing<K> {
         self.do_set(list, nodes, journal, place, values)
     }
 
-    // Opens a trial. The journal has no entries then, whatever it holds.
+    // Opens a trial, and answers 0. The trial has no entries then, whatever the journal holds.
     #[tactic(auto, using(crate::proofs::Keeping::try_law))]
     pub fn open_trial(&mut self) -> Result<usize, Refusal>
         ensures call { TryCall self.old result self.new }

@@ -11,7 +11,7 @@ pub struct Filling<K> {
     ghost few: { stations ≤ 4096 },
 }
 
-// Takes the other calls. In a trial it counts the journal's entries.
+// Takes the other calls. In a trial it counts the trial's entries.
 #[derive(Drop)]
 pub struct Standing<K> {
     pub(crate) tree: Tree<K>,

@@ -10,7 +10,7 @@ use semiring::Semiring;
 use semiring::costs::Costs;
 use std::{fmt, io};
 
-// A label in quotes, as it may be empty. Its bytes are characters, where it is one.
+// A label in quotes, as it may be empty. The bytes of a label are characters.
 #[derive(Clone, Copy)]
 struct Quoted<'a>(&'a [u8]);
 
