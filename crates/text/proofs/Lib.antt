@@ -1,0 +1,22 @@
+-- The modules of this folder.
+pub mod Digits
+pub mod Quoting
+pub mod Padding
+pub mod Holding
+pub mod Making
+pub mod Spanning
+pub mod Resuming
+pub mod Machine
+pub mod Running
+pub mod Placing
+pub mod Doubling
+pub mod Meaning
+pub mod Unique
+pub mod Stopping
+pub mod Recording
+pub mod RoundTrips
+pub mod Putting
+pub mod Columns
+pub mod Counting
+pub mod Going
+pub mod Deciding

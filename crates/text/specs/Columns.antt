@@ -1,0 +1,40 @@
+-- What a column says: a number, or one of the words for statuses and kinds.
+-- Words: Says, IsNumber, IsWord, IsStatus, kind_word, IsKind, OrFault.
+use Rattle.std.specs.Prelude.{◌≡◌, ◌≢◌, ℕ, ◌<◌, ◌^◌, List, codes, Option, Some, None, Result, Ok, Err}
+use Rattle.std.specs.Fmt.{decimal}
+use Rattle.station.specs.declared.record.Status.{Status}
+use Rattle.station.specs.Words.{status_word}
+use Rattle.text.specs.declared.fault.RecordFault.{RecordFault}
+use Rattle.text.specs.declared.words.KindName.{KindName}
+use Rattle.text.specs.declared.words.KindName.TheVariants.{Runs, Counts, Residues, Costs}
+
+-- the bytes are the decimal text of n, which has no needless zero in front
+abbrev pub Says : ℕ → List ℕ → Type 0
+Says n v = (n < 2 ^ 64) × (v ≡ decimal n)
+
+-- the number that the bytes say, or none
+abbrev pub IsNumber : List ℕ → Option ℕ → Type 0
+IsNumber v None = (n : ℕ) → Says n v → ⊥
+IsNumber v (Some n) = Says n v
+
+-- the value whose word the bytes are, or none
+abbrev pub IsWord : {A : Type 0} → (A → List ℕ) → List ℕ → Option A → Type 0
+IsWord {A} word v None = (x : A) → v ≢ word x
+IsWord word v (Some x) = v ≡ word x
+
+abbrev pub IsStatus : List ℕ → Option Status → Type 0
+IsStatus = IsWord status_word
+
+abbrev pub kind_word : KindName → List ℕ
+kind_word Runs = codes "runs"
+kind_word Counts = codes "counts"
+kind_word Residues = codes "residues"
+kind_word Costs = codes "costs"
+
+abbrev pub IsKind : List ℕ → Option KindName → Type 0
+IsKind = IsWord kind_word
+
+-- what a column says, or the fault where it says nothing of the sort
+abbrev pub OrFault : {A : Type 0} → (Option A → Type 0) → RecordFault → Result A RecordFault → Type 0
+OrFault is f (Ok v) = is (Some v)
+OrFault is f (Err e) = is None × (e ≡ f)

@@ -1,0 +1,23 @@
+-- What a field means: quotes are taken off, and a doubled quote is one.
+-- Words: halve, halved, is_quoted, inner, content.
+use Rattle.std.specs.Prelude.{ℕ, ◌-◌, Bool, true, false, cond, ◌&&◌, ◌==◌, nat_le, List, [], ◌∷◌, length, take, drop, slice_index}
+
+-- leaves out the byte behind each quote; `true` leaves out the first byte
+abbrev pub halve : Bool → List ℕ → List ℕ
+halve b [] = []
+halve false (x ∷ xs) = x ∷ halve (x == 34) xs
+halve true (x ∷ xs) = halve false xs
+
+abbrev pub halved : List ℕ → List ℕ
+halved xs = halve false xs
+
+-- it begins with a quote, as of the grammar's fields only quoted ones do; the last byte of any other field that does is taken for its quote
+abbrev pub is_quoted : List ℕ → Bool
+is_quoted r = nat_le 2 (length r) && slice_index r 0 == 34
+
+-- without the byte in front and the byte at the end, where there are quotes
+abbrev pub inner : List ℕ → List ℕ
+inner r = cond (is_quoted r) (take (length r - 2) (drop 1 r)) r
+
+abbrev pub content : List ℕ → List ℕ
+content r = cond (is_quoted r) (halved (inner r)) r
