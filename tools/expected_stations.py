@@ -1,7 +1,7 @@
 """Computes what the program `stations` is expected to print for the text on standard input. It shares nothing with the monitor.
 
-The grammar is a pair of regular expressions. A record is what they match; where they match none, the first impossible byte is found
-by its definition: the first one with which the bytes from the record's first on can no longer be continued to a text.
+The grammar is written as regular expressions. A record is what RECORD matches; where it does not match, the first impossible byte is
+found by its definition: the first one with which the bytes from the record's first on can no longer be continued to a text.
 """
 
 import re

@@ -15,13 +15,13 @@ use Rattle.text.specs.AnswerText.{answer_text}
 use Rattle.text.specs.StationText.{stations_text}
 use Rattle.text.specs.Reading.{Outcome, next_of}
 
--- the record is a station, or this is wrong with it
+-- the record makes this station, or this is wrong with it
 abbrev pub RecordGives : List ℕ → Record → Result Station TextFault → Type 0
 RecordGives s x (Ok y) = StationIs s x (Ok y)
 RecordGives s x (Err (of_text.Record f)) = StationIs s x (Err f)
 RecordGives s x (Err (of_text.NotWellFormed k)) = ⊥
 
--- what was found at the place p is a station, or this is wrong there
+-- what was found at the place p makes this station, or this is wrong there
 abbrev pub Gives : List ℕ → ℕ → Result Record Damage → Result Station TextFault → Type 0
 Gives s p (Ok x) o = RecordGives s x o
 Gives s p (Err d) o = o ≡ Err (of_text.NotWellFormed (p + d.offset))

@@ -9,7 +9,7 @@ use crate::list::List;
 use station::record::Station;
 use std::alloc::{AllocError, Global};
 use text::answer::Answer;
-use text::stations::write_stations;
+use text::station_text::write_stations;
 use text::written::write;
 
 // The answers, one after another, in as much memory as they need.

@@ -16,7 +16,7 @@ pub mod Stopping
 pub mod Recording
 pub mod RoundTrips
 pub mod Putting
-pub mod Columns
+pub mod WrittenColumns
 pub mod Counting
 pub mod Going
 pub mod Deciding

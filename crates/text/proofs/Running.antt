@@ -3,7 +3,7 @@ use Rattle.std.proofs.Common.{◌≡◌, ℕ, ◌⊎◌, List, [], ◌∷◌, �
 use Rattle.std.specs.List.{AllByRecursion}
 use Rattle.std.proofs.lemmas.Bool.{cases_eq, ne_eqb}
 use Rattle.std.proofs.lemmas.Bool.Decides.{nat_tests}
-use Rattle.text.specs.Grammar.{Plain, Quotable, twice, doubled, IsField, plain, quoted, Piece, raws, commaed, Row, Begins, Text, none, more}
+use Rattle.text.specs.Grammar.{Plain, Quotable, between_quotes, doubled, IsField, plain, quoted, Piece, raws, commaed, Row, Begins, Text, none, more}
 use Rattle.text.proofs.Machine.{start, bare, inside, closed, returned, dead, step, run, run-append, run-done, Open, Live, open_live, comma_starts, return_returns}
 
 start_plain : (b : ℕ) → Plain b → step start b ≡ bare
@@ -19,16 +19,16 @@ run_bare : (r : List ℕ) → AllByRecursion Plain r → run bare r ≡ bare
 run_bare [] h = refl
 run_bare (b ∷ r) h = ap (λ q. run q r) (bare_plain b h.0) ∙ run_bare r h.1
 
-inside-twice : (b : ℕ) → Quotable b → run inside (twice b) ≡ inside
-inside-twice b h =
+inside-between_quotes : (b : ℕ) → Quotable b → run inside (between_quotes b) ≡ inside
+inside-between_quotes b h =
     ⊎_elim
-    (λ same. ap (λ x. run inside (twice x)) same)
+    (λ same. ap (λ x. run inside (between_quotes x)) same)
     (λ other. rw (ne_eqb b 34 other) (inside_quotable b h other))
     (cases_eq b 34)
 
 pub inside-doubled : (v : List ℕ) → AllByRecursion Quotable v → run inside (doubled v) ≡ inside
 inside-doubled [] h = refl
-inside-doubled (b ∷ v) h = run-append inside (twice b) (doubled v) ∙ ap (λ q. run q (doubled v)) (inside-twice b h.0) ∙ inside-doubled v h.1
+inside-doubled (b ∷ v) h = run-append inside (between_quotes b) (doubled v) ∙ ap (λ q. run q (doubled v)) (inside-between_quotes b h.0) ∙ inside-doubled v h.1
 
 plain_way : (r : List ℕ) → AllByRecursion Plain r → (run start r ≡ start) ⊎ (run start r ≡ bare)
 plain_way [] h = inl refl

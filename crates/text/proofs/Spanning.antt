@@ -5,7 +5,7 @@ use Rattle.std.proofs.slice.Lists.{all_by_recursion_push}
 use Rattle.std.proofs.lemmas.Bool.{ne_eqb}
 use Rattle.std.proofs.Math.Seq.{drop-append_seam}
 use Rattle.std.proofs.lemmas.List.{drop_more, drop-drop, flat_map_more}
-use Rattle.text.specs.Grammar.{Plain, Quotable, twice, doubled}
+use Rattle.text.specs.Grammar.{Plain, Quotable, between_quotes, doubled}
 use Rattle.text.specs.Scanning.{Spans}
 
 pub spans_none : (s : List ℕ) (p : ℕ) → p ≤ length s → Spans s p [] p
@@ -57,11 +57,11 @@ pub record Quoted (s : List ℕ) (p i : ℕ) : Type 0 where
 pub quote_opens : (s : List ℕ) (p : ℕ) → p < length s → get_or s p 0 ≡ 34 → Quoted s p (p + 1)
 quote_opens s p h e = record { value = []; each = tt; spans = spans_byte s p 34 h e }
 
-quoted_on : (s : List ℕ) (p i j b : ℕ) → (q : Quoted s p i) → Quotable b → Spans s i (twice b) j → Quoted s p j
+quoted_on : (s : List ℕ) (p i j b : ℕ) → (q : Quoted s p i) → Quotable b → Spans s i (between_quotes b) j → Quoted s p j
 quoted_on s p i j b q h t = record {
   value = q.value ++ b ∷ [];
   each = all_by_recursion_push Quotable q.value b q.each h;
-  spans = subst (λ (r : List ℕ). Spans s p (34 ∷ r) j) (flat_map_more twice [] q.value b) (spans_on s p i j _ _ q.spans t);
+  spans = subst (λ (r : List ℕ). Spans s p (34 ∷ r) j) (flat_map_more between_quotes [] q.value b) (spans_on s p i j _ _ q.spans t);
 }
 
 pub quoted_byte : (s : List ℕ) (p i : ℕ) → Quoted s p i → i < length s → get_or s i 0 ≢ 34 → Quotable (get_or s i 0) → Quoted s p (i + 1)

@@ -39,7 +39,7 @@ CodeFault s x p =
     (IsNumber (column s x 3) None × (p ≡ column_place x 3))
     ⊎ ((up : ℕ) × Says up (column s x 3) × IsNumber (column s x 4) None × (p ≡ column_place x 4))
 
--- the first thing that is wrong with the columns, from the left
+-- what is wrong with a record before its label is looked at: it is no add record, or its first bad status or code from the left
 abbrev pub ColumnFault : List ℕ → Record → RecordFault → Type 0
 ColumnFault s x Unknown = IsAdd s x → ⊥
 ColumnFault s x (NotAWord p) = IsAdd s x × IsStatus (column s x 2) None × (p ≡ column_place x 2)

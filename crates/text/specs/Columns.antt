@@ -8,7 +8,7 @@ use Rattle.text.specs.declared.fault.RecordFault.{RecordFault}
 use Rattle.text.specs.declared.words.KindName.{KindName}
 use Rattle.text.specs.declared.words.KindName.TheVariants.{Runs, Counts, Residues, Costs}
 
--- the bytes are the decimal text of n, which has no needless zero in front
+-- n has at most 64 bits, and the bytes are its decimal text, which has no needless zero in front
 abbrev pub Says : ℕ → List ℕ → Type 0
 Says n v = (n < 2 ^ 64) × (v ≡ decimal n)
 

@@ -1,5 +1,5 @@
--- A text of records as in RFC 4180, with the bytes that the house allows.
--- Words: Plain, Quotable, twice, doubled, IsField, Piece, WellFormed, raws, contents, commaed, Row, Begins, Text, Continues, Stops.
+-- The grammar of a text, as in RFC 4180: fields, records, and where no record begins. At the end of a text none does.
+-- Words: Plain, Quotable, between_quotes, doubled, IsField, Piece, WellFormed, raws, contents, commaed, Row, Begins, Text, Continues, Stops.
 use Rattle.std.specs.Prelude.{◌≡◌, ◌≢◌, ℕ, ◌+◌, ◌<◌, ◌≤◌, ◌⊎◌, cond, ◌==◌, List, [], ◌∷◌, ◌++◌, length, take, map}
 use Rattle.std.specs.List.{AllByRecursion, flat_map}
 
@@ -12,17 +12,18 @@ abbrev pub Quotable : ℕ → Type 0
 Quotable b = ((0x20 ≤ b) × (b ≤ 0x7E)) ⊎ ((b ≡ 13) ⊎ (b ≡ 10))
 
 -- a byte as it is written between quotes: a quote is doubled
-abbrev pub twice : ℕ → List ℕ
-twice b = cond (b == 34) (34 ∷ 34 ∷ []) (b ∷ [])
+abbrev pub between_quotes : ℕ → List ℕ
+between_quotes b = cond (b == 34) (34 ∷ 34 ∷ []) (b ∷ [])
 
 abbrev pub doubled : List ℕ → List ℕ
-doubled = flat_map twice
+doubled = flat_map between_quotes
 
 -- a field as it is written, and what it means
 pub data IsField : List ℕ → List ℕ → Type 0 where
   plain : {v : List ℕ} → AllByRecursion Plain v → IsField v v
   quoted : {v : List ℕ} → AllByRecursion Quotable v → IsField (34 ∷ doubled v ++ 34 ∷ []) v
 
+-- a field's bytes as they are written, and what they mean
 pub record Piece : Type 0 where
   pub raw : List ℕ
   pub content : List ℕ

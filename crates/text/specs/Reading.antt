@@ -20,7 +20,7 @@ pub record Reads (s : List ℕ) (p : ℕ) (x : Record) : Type 0 where
   pub found : x ≡ record_of p (raws pieces) (length s - length rest)
   pub columns : columns_of s x ≡ take most_columns (contents pieces)
 
--- the first impossible byte, counted from the record's first, and where reading goes on
+-- the first impossible byte, counted from p, and where reading goes on
 pub record Breaks (s : List ℕ) (p : ℕ) (d : Damage) : Type 0 where
   pub stops : Stops (drop p s) d.offset
   pub next : d.next ≡ resumed s (p + d.offset)

@@ -57,7 +57,7 @@ Follows s e (Impossible k) =
     ((k ≡ e) × (e < length s) × (slice_index s e ≢ 44) × (slice_index s e ≢ 13))
     ⊎ ((k ≡ e + 1) × (e < length s) × (slice_index s e ≡ 13) × (HasCrlf s e → ⊥))
 
--- no record begins at p, and k is its first impossible byte
+-- no record begins at p, and k is the place of the first impossible byte
 pub record StopsAt (s : List ℕ) (p k : ℕ) : Type 0 where
   pub low : p ≤ k
   pub stops : Stops (drop p s) (k - p)

@@ -45,7 +45,7 @@ impl Record {
         self.count == 5 && self.has_add_verb(text)
     }
 
-    // The columns of an add record, or what is wrong with the first bad one.
+    // The columns of an add record; or that it is none, or its first bad status or code.
     pub fn add_columns(&self, text: &[u8]) -> Result<AddColumns, RecordFault>
         ensures { AddColumnsAre text.now self.now result }
     {
@@ -61,7 +61,7 @@ impl Record {
         })
     }
 
-    // The station of an add record, made as an add on a line makes it.
+    // The station of an add record, by the call by which an add on a line makes it; no kind is asked.
     pub fn station(&self, text: &[u8]) -> Result<Station, RecordFault>
         ensures { StationIs text.now self.now result }
     {

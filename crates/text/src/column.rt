@@ -13,7 +13,7 @@ use crate::record::Field;
 use crate::words::{KindName, kind_named, status_named};
 use station::record::Status;
 
-// Whether there are quotes around it.
+// Whether it begins with a quote and has a byte behind that: of the grammar's fields, the quoted ones.
 fn has_quotes(raw: &[u8]) -> bool
     ensures { result ≡ is_quoted raw.now }
 {

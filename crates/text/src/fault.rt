@@ -9,7 +9,7 @@ use refusal::Refusal;
 // Why a well-formed record is refused.
 #[derive(Clone, Copy)]
 pub enum RecordFault {
-    // no record begins with this word, or none with so many columns
+    // no such verb, or another number of columns than the verb has
     Unknown,
     // a number column is no number; its first byte is at this place of the text
     NotANumber(usize),

@@ -10,6 +10,6 @@ mod number;
 pub mod record;
 mod scan;
 pub mod sink;
-pub mod stations;
+pub mod station_text;
 pub mod words;
 pub mod written;

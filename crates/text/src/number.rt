@@ -2,7 +2,7 @@
 ghost use Rattle.std.specs.Prelude.{◌≡◌, ◌<◌, ◌≤◌, ◌+◌, ◌*◌, ◌-◌, ◌^◌, MatchOption};
 ghost use Rattle.text.specs.Columns.{IsNumber};
 
-// The number with one digit more, unless the byte is none or the number passes 64 bits.
+// The number with one digit more, unless the byte is no digit or the number passes 64 bits.
 fn with_digit(number: u64, byte: u8) -> Option<u64>
     ensures { MatchOption result
         (48 ≤ byte → byte ≤ 57 → number * 10 + (byte - 48) < 2 ^ 64 → ⊥)

@@ -14,7 +14,7 @@ pub struct Field {
     pub to: usize,
 }
 
-// A record: the places of its first fields, how many fields it has, and where the text goes on behind it.
+// A record: the places of its first five fields, how many fields it has, and where the text goes on behind it.
 #[derive(Clone, Copy)]
 pub struct Record {
     pub fields: [Field; 5],

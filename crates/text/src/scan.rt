@@ -1,4 +1,4 @@
-// Going over the bytes of a text: where a field ends, what is behind it, and where reading goes on behind damage.
+// Going over the bytes of a text: where a field ends, what is behind it, and where reading goes on behind an impossible byte.
 ghost use Rattle.std.specs.Prelude.{◌≡◌, ◌+◌, ◌<◌, ◌≤◌, length, slice_index, Decides};
 ghost use Rattle.text.specs.Grammar.{Plain, Quotable};
 ghost use Rattle.text.specs.Resuming.{resumed};
@@ -42,7 +42,7 @@ fn plain_end(text: &[u8], at: usize) -> usize
     i
 }
 
-// Where the quoted field ends whose first quote is at the place, or the first byte that it cannot have.
+// Where the quoted field ends whose first quote is at the place, or the first byte that it cannot have, or the end of the text.
 #[tactic(auto, using(crate::proofs::Spanning::quoted_byte, crate::proofs::Spanning::quoted_quote, crate::proofs::Spanning::quote_opens))]
 fn quoted_end(text: &[u8], at: usize) -> Result<usize, usize>
     requires { (at < length text.now) × (slice_index text.now at ≡ 34) }
@@ -64,7 +64,7 @@ fn quoted_end(text: &[u8], at: usize) -> Result<usize, usize>
     Err(i)
 }
 
-// The field that begins at the place, or the first byte that it cannot have.
+// The field that begins at the place, or the first byte that it cannot have, or the end of the text.
 pub(crate) fn field_at(text: &[u8], at: usize) -> Result<Field, usize>
     requires { at ≤ length text.now }
     ensures { FieldAt text.now at result }

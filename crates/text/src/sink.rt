@@ -57,7 +57,7 @@ impl Sink<'_> {
     }
 
     // A record of a word and of numbers.
-    #[tactic(auto, using(crate::proofs::Columns::columns_more, crate::proofs::Columns::columns_all))]
+    #[tactic(auto, using(crate::proofs::WrittenColumns::columns_more, crate::proofs::WrittenColumns::columns_all))]
     pub fn line(&mut self, word: &[u8], numbers: &[u64])
         ensures { self.new ≡ with_text (line_of (word.now ∷ map decimal numbers.now)) self.old }
     {

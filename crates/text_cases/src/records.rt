@@ -36,7 +36,7 @@ fn ends(text: &[u8], count: usize, next: usize) -> bool {
     }
 }
 
-// Whether the last of the fields that are kept means these bytes.
+// Whether the last of the fields that are kept means these bytes, as far as a label column is kept.
 fn last_means(text: &[u8], bytes: &[u8]) -> bool {
     match front(text) {
         Some(record) => {
@@ -50,7 +50,7 @@ fn last_means(text: &[u8], bytes: &[u8]) -> bool {
     }
 }
 
-// The only field as a number; None where it is none.
+// The first field as a number; None where it is none.
 fn number(text: &[u8]) -> Option<u64> {
     front(text)?.fields[0].number(text).ok()
 }

@@ -5,9 +5,9 @@ use std::test::Fail;
 use text::answer::{Answer, Figures};
 use text::fault::{RecordFault, TextFault};
 use text::record::read_record;
-use text::stations::write_stations;
+use text::station_text::write_stations;
 
-// What an answer leaves of a space of this many bytes, which are all 7 before.
+// Whether an answer tells the text's length, and leaves a space of sevens with the text where it fits and else as it was.
 fn told(answer: &Answer, text: &[u8], room: &mut [u8]) -> bool {
     let fits = text.len() <= room.len();
     room.fill(7);
@@ -115,7 +115,7 @@ fn stations_are_written_where_they_fit(rt: HostRuntime) -> Result<(), Fail> {
     Ok(())
 }
 
-// The next station of a text, if the record at the place is one.
+// The next station of a text, if the record at the place makes one.
 fn station_at(text: &[u8], at: usize) -> Option<(Station, usize)> {
     let record = read_record(text, at)?.ok()?;
     let station = record.station(text).ok()?;

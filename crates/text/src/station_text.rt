@@ -1,7 +1,7 @@
 // A list of stations as the text of the records that add them.
 ghost use Rattle.std.specs.Prelude.{◌≡◌, [], ◌∷◌, ◌++◌};
 ghost use Rattle.std.specs.List.{list_any};
-ghost use Rattle.text.specs.Grammar.{twice, doubled, Text};
+ghost use Rattle.text.specs.Grammar.{between_quotes, doubled, Text};
 ghost use Rattle.text.specs.RoundTrip.{ReadsBack};
 ghost use Rattle.text.specs.StationText.{is_mark, label_text, station_text, stations_text};
 ghost use Rattle.text.specs.Stored.{Stored};
@@ -25,8 +25,8 @@ fn has_mark(label: &[u8]) -> bool
 }
 
 // The byte as it is written between quotes.
-fn put_twice(byte: u8, sink: &mut Sink<'_>)
-    ensures { sink.new ≡ with_text (twice byte) sink.old }
+fn put_between_quotes(byte: u8, sink: &mut Sink<'_>)
+    ensures { sink.new ≡ with_text (between_quotes byte) sink.old }
 {
     if byte == b'"' {
         sink.bytes(b"\"\"");
@@ -40,7 +40,7 @@ fn put_doubled(bytes: &[u8], sink: &mut Sink<'_>)
     ensures { sink.new ≡ with_text (doubled bytes.now) sink.old }
 {
     for byte in bytes {
-        put_twice(*byte, sink);
+        put_between_quotes(*byte, sink);
     }
 }
 
@@ -64,7 +64,7 @@ fn put_label(label: &[u8], sink: &mut Sink<'_>)
 }
 
 // The station is handed over by value, so that what its memory can hold is known of it.
-#[tactic(auto, using(crate::proofs::Putting::one_after_another, crate::proofs::Columns::station_split))]
+#[tactic(auto, using(crate::proofs::Putting::one_after_another, crate::proofs::WrittenColumns::station_split))]
 fn put_station(station: Station, sink: &mut Sink<'_>)
     ensures text { sink.new ≡ with_text (station_text station) sink.old }
     ensures known { Stored station }
