@@ -1,5 +1,5 @@
 -- What a call answers and leaves is determined by what it was given.
-use Rattle.std.specs.Prelude.{◌≡◌, ℕ, zero, suc, ◌+◌, ◌-◌, ◌*◌, ◌/◌, ◌<◌, ◌≤◌, ◌⊎◌, ◌==◌, cond, List, [], ◌∷◌, Some, None, Result, Ok, Err, IfOk, length, take, slice_get, refl}
+use Rattle.std.specs.Prelude.{◌≡◌, ℕ, zero, suc, ◌+◌, ◌-◌, ◌*◌, ◌<◌, ◌≤◌, ◌==◌, cond, List, [], ◌∷◌, Some, None, Result, Ok, Err, IfOk, length, take, slice_get, refl}
 use Rattle.std.proofs.Common.{sym, ◌∙◌, ap, subst, inl, inr, arith}
 use Rattle.std.proofs.Math.Bridge.{le_prop}
 use Rattle.std.proofs.lemmas.Bool.{cases_eq, cases_lt}
@@ -16,8 +16,8 @@ use Rattle.tree.specs.declared.tree.Tree.{Tree}
 use Rattle.tree.specs.Shape.{height, leaf, node_count}
 use Rattle.tree.specs.Blocks.{Under}
 use Rattle.tree.specs.Nodes.{cell_of, Rewritten}
-use Rattle.tree.proofs.BlocksUnder.{under_both, at_most, step_up}
-use Rattle.tree.proofs.Standing.{same_nodes}
+use Rattle.tree.proofs.BlocksUnder.{at_most}
+use Rattle.tree.proofs.Standing.{same_nodes, under_or_not}
 use Rattle.line.specs.declared.values.Values.{Values}
 use Rattle.line.specs.declared.values.Entry.{Entry}
 use Rattle.line.specs.declared.lines.Filling.{Filling}
@@ -109,19 +109,6 @@ enough n room cells passed = grind (arith, passed)
 taken_long : {X : Type 0} (n : ℕ) (xs : List X) → n ≤ length xs → length (take n xs) ≡ n
 taken_long n xs le = omega (arith, length-take n xs, le)
 
--- whether a node lies above another or not
-above_or_not : (looks i k : ℕ) → k ≤ looks → 1 ≤ i → Under i k ⊎ ¬ Under i k
-above_or_not zero i k few low = inr (λ u. absurd (omega (arith, at_most i k u)))
-above_or_not (suc looks) i k few low =
-    elim (cases_eq k i) [
-      | inl is ↦ inl (0, omega arith)
-      | inr other ↦
-          elim (above_or_not looks i (k / 2) (omega arith) low) [
-            | inl under ↦ inl (under_both i (k / 2) k under (1, refl))
-            | inr none ↦ inr (λ u. elim (step_up i k u) [ inl same ↦ other (sym same) | inr up ↦ none up ])
-          ]
-    ]
-
 module _ {E C : Type 0} (o : KindOps E C) where
   -- node by node, from the last one on
   rewritten_from : (l : ℕ) (e : E) (old a b : List C) → Rewritten o l e old a → Rewritten o l e old b
@@ -133,7 +120,7 @@ module _ {E C : Type 0} (o : KindOps E C) where
       elim (cases_eq k l) [
         | inl leaf_is ↦ subst (λ j. cell_of a j ≡ cell_of b j) (sym leaf_is) (at_a.leaf ∙ sym at_b.leaf)
         | inr other ↦
-            elim (above_or_not l k l (omega arith) low) [
+            elim (under_or_not l k l (omega arith) low) [
               | inl under ↦
                   let left = rewritten_from l e old a b at_a at_b behind (2 * k) (omega arith) (omega arith) in
                   let right = rewritten_from l e old a b at_a at_b behind (2 * k + 1) (omega arith) (omega arith) in

@@ -10,6 +10,7 @@ use Rattle.kind.specs.Stretch.{takes_all}
 use Rattle.tree.specs.Nodes.{StandsFor}
 use Rattle.tree.proofs.Lists.{slice_get_some, set_same, set_other}
 use Rattle.tree.proofs.Standing.{write_laws}
+use Rattle.tree.proofs.Windows.{takes_one}
 use Rattle.line.specs.declared.values.Values.{Values}
 use Rattle.line.specs.declared.values.Entry.{Entry}
 use Rattle.line.specs.View.{values_of, with_values, put_on, put}
@@ -118,11 +119,6 @@ module _ {E C : Type 0} (o : KindOps E C) where
       put_take n (undone es xs) e.place e.values low high ∙ ap (λ l. put l e.place e.values) (undone_take n xs es more)
 
   -- stations that are taken
-  taken_one : (xs : List Station) (k : ℕ) (x : Station) → takes_all o xs ≡ true → slice_get xs k ≡ Some x → o.takes x ≡ true
-  taken_one [] k x all is = grind (arith, is)
-  taken_one (y ∷ xs) zero x all is = grind (arith, all, is)
-  taken_one (y ∷ xs) (suc k) x all is = taken_one xs k x (grind (arith, all)) is
-
   taken_set : (xs : List Station) (k : ℕ) (x : Station) → takes_all o xs ≡ true → o.takes x ≡ true → takes_all o (slice_set xs k x) ≡ true
   taken_set [] k x all one = refl
   taken_set (y ∷ xs) zero x all one = grind (arith, all, one)
@@ -140,7 +136,7 @@ module _ {E C : Type 0} (o : KindOps E C) where
       → takes_all o xs ≡ true → Recalls o xs old es → Recalls o (put xs p v) old (es ++ entry_at p x ∷ [])
   recalls_more xs old es p v x low high is all r =
       let n = length xs in
-      let own : takes_at o xs p (values_of x) ≡ true = ap (takes_with o (values_of x)) is ∙ taken_one xs (p - 1) x all is in
+      let own : takes_at o xs p (values_of x) ≡ true = ap (takes_with o (values_of x)) is ∙ takes_one o xs (p - 1) x all is in
       let good : any_bad o n (put xs p v) (es ++ entry_at p x ∷ []) ≡ false =
       good-append n (put xs p v) es (entry_at p x) (good_put n xs p v es low r.good)
       (good_from n (put xs p v) (entry_at p x) low high (takes_put xs p p v (values_of x) low low ∙ own)) in

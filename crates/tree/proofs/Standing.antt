@@ -23,14 +23,14 @@ apart h q p one le low high ne u =
       | inr above ↦ absurd (omega (arith, pow_pos h, at_most (leaf h q) (leaf h p / 2) above))
     ]
 
--- whether a node lies under another is decidable
-looking : (looks i k : ℕ) → k ≤ looks → 1 ≤ i → Under i k ⊎ ¬ Under i k
-looking zero i k few low = inr (λ u. absurd (omega (arith, at_most i k u)))
-looking (suc looks) i k few low =
+-- a node lies under another or it does not
+pub under_or_not : (looks i k : ℕ) → k ≤ looks → 1 ≤ i → Under i k ⊎ ¬ Under i k
+under_or_not zero i k few low = inr (λ u. absurd (omega (arith, at_most i k u)))
+under_or_not (suc looks) i k few low =
     elim (cases_eq k i) [
       | inl is ↦ inl (0, omega arith)
       | inr not ↦
-          elim (looking looks i (k / 2) (omega arith) low) [
+          elim (under_or_not looks i (k / 2) (omega arith) low) [
             | inl under ↦ inl (under_both i (k / 2) k under (1, refl))
             | inr none ↦ inr (λ u. elim (step_up i k u) [ inl same ↦ not (sym same) | inr up ↦ none up ])
           ]
@@ -90,7 +90,7 @@ module _ {E C : Type 0} (o : KindOps E C) where
     further = λ q behind le.
         let long = length-set xs (p - 1) x in
         w.others (leaf h q) (omega arith) (apart h q p (omega arith) le low (omega arith) (λ e. omega arith)) ∙ at.further q (omega arith) le;
-    inner = λ i one lt. elim (looking (leaf h p) i (leaf h p) (omega arith) one) [
+    inner = λ i one lt. elim (under_or_not (leaf h p) i (leaf h p) (omega arith) one) [
       | inl under ↦ w.above i one (λ e. omega arith) under
       | inr not ↦ joined_with o old new i (w.others i one not) (w.others (2 * i) (omega arith) (λ u. not (under_both i (2 * i) (leaf h p) (1, omega arith) u)))
           (w.others (2 * i + 1) (omega arith) (λ u. not (under_both i (2 * i + 1) (leaf h p) (1, omega arith) u))) (at.inner i one lt)

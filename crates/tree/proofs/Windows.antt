@@ -27,7 +27,7 @@ leaves_range (suc j) i a b =
     grind (arith, half, leaves_range j (2 * i) a b, leaves_range j (2 * i + 1) a b, range_glued a b (i * 2 ^ suc j) (i * 2 ^ suc j + 2 ^ j) ((i + 1) * 2 ^ suc j))
 
 -- each station of a list that is taken is taken
-takes_one : {E C : Type 0} (o : KindOps E C) (ys : List Station) (k : ℕ) (y : Station) → takes_all o ys ≡ true → slice_get ys k ≡ Some y → o.takes y ≡ true
+pub takes_one : {E C : Type 0} (o : KindOps E C) (ys : List Station) (k : ℕ) (y : Station) → takes_all o ys ≡ true → slice_get ys k ≡ Some y → o.takes y ≡ true
 takes_one o [] k y t is = grind arith
 takes_one o (x ∷ ys) zero y t is = grind (arith, t, is)
 takes_one o (x ∷ ys) (suc k) y t is = takes_one o ys k y (grind (arith, t)) is
