@@ -13,11 +13,15 @@ pub data State : Type 0 where
   done : State
   dead : State
 
+-- the grammar's bytes, as tests
+abbrev pub is_visible : ℕ → Bool
+is_visible b = nat_le 0x20 b && nat_le b 0x7E
+
 abbrev pub is_plain : ℕ → Bool
-is_plain b = nat_le 32 b && (nat_le b 126 && (not (b == 34) && not (b == 44)))
+is_plain b = is_visible b && (not (b == 34) && not (b == 44))
 
 abbrev pub is_quotable : ℕ → Bool
-is_quotable b = (nat_le 32 b && nat_le b 126) || (b == 13 || b == 10)
+is_quotable b = is_visible b || (b == 13 || b == 10)
 
 -- behind a field
 abbrev pub behind : ℕ → State

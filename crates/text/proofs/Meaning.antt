@@ -14,7 +14,7 @@ use Rattle.text.proofs.Spanning.{spans_from, spans_front, spans_behind}
 
 is_quoted_plain : (v : List ℕ) → AllByRecursion Plain v → is_quoted v ≡ false
 is_quoted_plain [] h = refl
-is_quoted_plain (b ∷ v) h = and_right _ _ (ne_eqb b 34 h.0.2)
+is_quoted_plain (b ∷ v) h = and_right _ _ (ne_eqb b 34 h.0.1)
 
 is_quoted_quoted : (r : List ℕ) → is_quoted (34 ∷ r ++ 34 ∷ []) ≡ true
 is_quoted_quoted r = and_from _ _ (le-leb _ _ (omega (arith, length-append r (34 ∷ [])))) refl

@@ -1,8 +1,8 @@
 -- The first places of a list with something behind it, as an array of a fixed length keeps a list.
 use Rattle.std.proofs.Common.{◌≡◌, ℕ, zero, suc, ◌+◌, ◌-◌, ◌≤◌, ◌<◌, min, List, [], ◌∷◌, ◌++◌, length, take, drop, replicate, slice_set, sym, refl, ap, ◌∙◌, ⊎_elim, append-nil, arith}
-use Rattle.std.proofs.Math.Seq.{take-append-add}
+use Rattle.std.proofs.Math.Seq.{take-append-add, take-append_seam}
 use Rattle.std.proofs.lemmas.Bool.{cases_lt}
-use Rattle.std.proofs.lemmas.List.{take-replicate, drop-replicate, take_all, take-append-le}
+use Rattle.std.proofs.lemmas.List.{take-replicate, drop-replicate, take_all, take-append-le, length-take}
 
 -- one more at the end is written at the end, and past the last place not at all
 pub padded_push : {X : Type 0} (k m : ℕ) (d x : X) (xs : List X) → k ≤ m
@@ -36,4 +36,15 @@ copied k d xs =
     ∙ ap (λ l. l ++ drop (length xs) (replicate k d)) (take_all (length xs) xs (omega arith))
     ∙ ap (λ l. xs ++ l) (drop-replicate (length xs) k d)
     ∙ sym (padded_short k d xs short))
+    (cases_lt k (length xs))
+
+-- those that are there
+pub take-padded : {X : Type 0} (k : ℕ) (d : X) (xs : List X) → take (length xs) (take k (xs ++ replicate k d)) ≡ take k xs
+take-padded k d xs =
+    ⊎_elim
+    (λ (more : k < length xs).
+    let front = take-append-le k xs (replicate k d) (omega arith) in
+    ap (take (length xs)) front ∙ take_all (length xs) (take k xs) (omega (arith, length-take k xs)))
+    (λ (short : length xs ≤ k).
+    ap (take (length xs)) (padded_short k d xs short) ∙ take-append_seam xs (replicate (k - length xs) d) ∙ sym (take_all k xs short))
     (cases_lt k (length xs))

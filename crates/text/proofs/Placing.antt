@@ -1,12 +1,11 @@
 -- The places of one field more, and what is kept of it.
 use Rattle.std.proofs.Common.{◌≡◌, ℕ, suc, ◌+◌, List, [], ◌∷◌, ◌++◌, length, take, set, refl, sym, ap, ◌∙◌, append_assoc, append-nil, arith, length-append}
 use Rattle.std.specs.List.{flat_map}
-use Rattle.std.proofs.Math.Seq.{take-nil}
 use Rattle.std.proofs.lemmas.List.{map_push, flat_map_more}
 use Rattle.text.specs.declared.record.Field.{Field}
 use Rattle.text.specs.Grammar.{Piece, raws, commaed}
 use Rattle.text.specs.Places.{most_columns, nowhere, placed, kept}
-use Rattle.text.proofs.Padding.{padded_push}
+use Rattle.text.proofs.Padding.{padded_push, take-padded}
 
 -- fields with a comma behind each
 abbrev pub led : List (List ℕ) → List ℕ
@@ -45,9 +44,4 @@ kept_push fs f = padded_push most_columns most_columns nowhere f fs (omega arith
 
 -- those that are there
 pub take-kept : (fs : List Field) → take (length fs) (kept fs) ≡ take most_columns fs
-take-kept [] = refl
-take-kept (a ∷ []) = refl
-take-kept (a ∷ b ∷ []) = refl
-take-kept (a ∷ b ∷ c ∷ []) = refl
-take-kept (a ∷ b ∷ c ∷ d ∷ []) = refl
-take-kept (a ∷ b ∷ c ∷ d ∷ e ∷ fs) = ap (λ l. a ∷ b ∷ c ∷ d ∷ e ∷ l) (take-nil (length fs))
+take-kept fs = take-padded most_columns nowhere fs

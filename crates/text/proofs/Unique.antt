@@ -48,7 +48,7 @@ body_same r v q w t u (quote {r = r'} {v = v'} g) (quote {r = q'} {v = w'} l) a 
 
 plain_no_quote : (r t q : List ℕ) → AllByRecursion Plain r → Seam t → r ++ t ≡ 34 ∷ q → ⊥
 plain_no_quote [] t q h a e = no_quote t _ _ a e refl
-plain_no_quote (x ∷ r) t q h a e = h.0.2 (head_same _ _ _ _ e)
+plain_no_quote (x ∷ r) t q h a e = h.0.1 (head_same _ _ _ _ e)
 
 field_same : (r v q w t u : List ℕ) → IsField r v → IsField q w → Seam t → Seam u → r ++ t ≡ q ++ u → (r ≡ q) × (v ≡ w) × (t ≡ u)
 field_same r v q w t u (plain {v = r'} h) (plain {v = q'} g) a b e = let p = plain_same r' q' t u h g a b e in (p.0, p.0, p.1)

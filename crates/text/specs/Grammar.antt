@@ -1,15 +1,19 @@
 -- The grammar of a text, as in RFC 4180: fields, records, and where no record begins. At the end of a text none does.
--- Words: Plain, Quotable, between_quotes, doubled, IsField, Piece, WellFormed, raws, contents, commaed, Row, Begins, Text, Continues, Stops.
+-- Words: Visible, Plain, Quotable, between_quotes, doubled, IsField, Piece, WellFormed, raws, contents, commaed, Row, Begins, Text, Continues, Stops.
 use Rattle.std.specs.Prelude.{◌≡◌, ◌≢◌, ℕ, ◌+◌, ◌<◌, ◌≤◌, ◌⊎◌, cond, ◌==◌, List, [], ◌∷◌, ◌++◌, length, take, map}
 use Rattle.std.specs.List.{AllByRecursion, flat_map}
 
--- a byte of a plain field: 20 to 7E hexadecimal, without quote and comma
-abbrev pub Plain : ℕ → Type 0
-Plain b = (0x20 ≤ b) × (b ≤ 0x7E) × (b ≢ 34) × (b ≢ 44)
+-- 20 to 7E hexadecimal
+abbrev pub Visible : ℕ → Type 0
+Visible b = (0x20 ≤ b) × (b ≤ 0x7E)
 
--- a byte that a quoted field can mean: 20 to 7E, CR and LF
+-- a byte of a plain field: without quote and comma
+abbrev pub Plain : ℕ → Type 0
+Plain b = Visible b × (b ≢ 34) × (b ≢ 44)
+
+-- a byte that a quoted field can mean: also CR and LF
 abbrev pub Quotable : ℕ → Type 0
-Quotable b = ((0x20 ≤ b) × (b ≤ 0x7E)) ⊎ ((b ≡ 13) ⊎ (b ≡ 10))
+Quotable b = Visible b ⊎ ((b ≡ 13) ⊎ (b ≡ 10))
 
 -- a byte as it is written between quotes: a quote is doubled
 abbrev pub between_quotes : ℕ → List ℕ

@@ -4,7 +4,7 @@ use Rattle.std.specs.Prelude.{ℕ, ◌+◌, ◌-◌, cond, ◌&&◌, nat_le, Lis
 use Rattle.text.specs.declared.record.Field.{Field}
 use Rattle.text.specs.declared.record.Record.{Record}
 
--- so many fields are kept of a record: no record of a session has more
+-- so many fields are kept of a record: no record that a session takes has more
 abbrev pub most_columns : ℕ
 most_columns = 5
 

@@ -1,6 +1,6 @@
 // Going over the bytes of a text: where a field ends, what is behind it, and where reading goes on behind an impossible byte.
 ghost use Rattle.std.specs.Prelude.{◌≡◌, ◌+◌, ◌<◌, ◌≤◌, length, slice_index, Decides};
-ghost use Rattle.text.specs.Grammar.{Plain, Quotable};
+ghost use Rattle.text.specs.Grammar.{Visible, Plain, Quotable};
 ghost use Rattle.text.specs.Resuming.{resumed};
 ghost use Rattle.text.specs.Scanning.{PlainRun, QuotedEnd, FieldAt, HasCrlf, Follows};
 
@@ -16,17 +16,24 @@ pub(crate) enum Behind {
     Impossible(usize),
 }
 
-fn is_plain(b: u8) -> bool
-    ensures { Decides result (Plain b) }
+fn is_visible(byte: u8) -> bool
+    ensures { Decides result (Visible byte) }
 {
-    b >= 0x20 && b <= 0x7E && b != b'"' && b != b','
+    matches!(byte, 0x20..=0x7E)
+}
+
+// Whether a plain field can have the byte.
+fn is_plain(byte: u8) -> bool
+    ensures { Decides result (Plain byte) }
+{
+    is_visible(byte) && byte != b'"' && byte != b','
 }
 
 // Whether a quoted field can mean the byte.
-fn is_quotable(b: u8) -> bool
-    ensures { Decides result (Quotable b) }
+fn is_quotable(byte: u8) -> bool
+    ensures { Decides result (Quotable byte) }
 {
-    b >= 0x20 && b <= 0x7E || b == b'\r' || b == b'\n'
+    is_visible(byte) || matches!(byte, b'\r' | b'\n')
 }
 
 // Where the run of plain bytes from the place on ends.
