@@ -1,3 +1,2 @@
 -- The modules of this folder.
 pub mod Listing
-pub mod Reporting

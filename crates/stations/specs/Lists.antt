@@ -1,7 +1,6 @@
 -- A station list as a text has it: what each record gives, and all of them to the end; what is told of it.
 -- Words: RecordGives, Gives, stations_of, answers_of, Lists, report_text.
 use Rattle.std.specs.Prelude.{◌≡◌, ℕ, ◌+◌, List, [], ◌∷◌, ◌++◌, Some, None, Result, Ok, Err}
-use Rattle.std.specs.List.{flat_map}
 use Rattle.station.specs.declared.record.Station.{Station}
 use Rattle.text.specs.declared.answer.Answer.{Answer}
 use Rattle.text.specs.declared.answer.Answer.TheVariants.{No}
@@ -11,7 +10,7 @@ use Rattle.text.specs.declared.record.Record.{Record}
 use Rattle.text.specs.declared.record.Damage.{Damage}
 use Rattle.text.specs.Adding.{StationIs}
 use Rattle.text.specs.Faults.{refused_at}
-use Rattle.text.specs.AnswerText.{answer_text}
+use Rattle.text.specs.AnswerText.{answers_text}
 use Rattle.text.specs.StationText.{stations_text}
 use Rattle.text.specs.Reading.{Outcome, next_of}
 
@@ -20,6 +19,7 @@ abbrev pub RecordGives : List ℕ → Record → Result Station TextFault → Ty
 RecordGives s x (Ok y) = StationIs s x (Ok y)
 RecordGives s x (Err (of_text.Record f)) = StationIs s x (Err f)
 RecordGives s x (Err (of_text.NotWellFormed k)) = ⊥
+RecordGives s x (Err of_text.TooLong) = ⊥
 
 -- what was found at the place p makes this station, or this is wrong there
 abbrev pub Gives : List ℕ → ℕ → Result Record Damage → Result Station TextFault → Type 0
@@ -44,4 +44,4 @@ pub data Lists (s : List ℕ) : ℕ → ℕ → List Station → List Answer →
 
 -- what is told of a list: the refusals in order, and then the list
 abbrev pub report_text : List Station → List Answer → List ℕ
-report_text xs ys = flat_map answer_text ys ++ stations_text xs
+report_text xs ys = answers_text ys ++ stations_text xs

@@ -7,7 +7,7 @@ use station::record::Station;
 use std::alloc::{AllocError, Global};
 use text::answer::Answer;
 use text::fault::TextFault;
-use text::record::{Damage, Record, read_record};
+use text::record::{Damage, Record, next_place, read_record};
 
 #[derive(Drop)]
 pub(crate) struct List {
@@ -65,10 +65,7 @@ pub(crate) fn read(alloc: Global, text: &[u8]) -> Result<List, AllocError>
     let mut number = 1;
     while let Some(found) = read_record(text, at) {
         list.take(station_at(text, at, found), number, at)?;
-        at = match found {
-            Ok(record) => record.next,
-            Err(damage) => damage.next,
-        };
+        at = next_place(found);
         number += 1;
     }
     Ok(list)

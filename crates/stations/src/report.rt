@@ -1,8 +1,7 @@
 // What is printed of a list: the refusals in order, and then the list as the writer gives it.
 ghost use Rattle.std.specs.Prelude.{◌≡◌, IfOk};
-ghost use Rattle.std.specs.List.{flat_map};
 ghost use Rattle.stations.specs.Lists.{report_text};
-ghost use Rattle.text.specs.AnswerText.{answer_text};
+ghost use Rattle.text.specs.AnswerText.{answers_text};
 ghost use Rattle.text.specs.StationText.{stations_text};
 
 use crate::list::List;
@@ -13,9 +12,9 @@ use text::station_text::write_stations;
 use text::written::write;
 
 // The answers, one after another, in as much memory as they need.
-#[tactic(auto, using(crate::proofs::Reporting::filled_exactly))]
+#[tactic(auto, using(text::proofs::Counting::filled_exactly))]
 fn answers_text(alloc: Global, answers: &[Answer]) -> Result<Vec<u8>, AllocError>
-    ensures { IfOk result (λ text. text.items ≡ flat_map answer_text answers.now) }
+    ensures { IfOk result (λ text. text.items ≡ answers_text answers.now) }
 {
     let needed = write(&answers, &mut []);
     let mut room = vec![in alloc; 0; needed]?;
@@ -24,7 +23,7 @@ fn answers_text(alloc: Global, answers: &[Answer]) -> Result<Vec<u8>, AllocError
 }
 
 // The list, in as much memory as it needs.
-#[tactic(auto, using(crate::proofs::Reporting::filled_exactly))]
+#[tactic(auto, using(text::proofs::Counting::filled_exactly))]
 fn list_text(alloc: Global, stations: &[Station]) -> Result<Vec<u8>, AllocError>
     ensures { IfOk result (λ text. text.items ≡ stations_text stations.now) }
 {

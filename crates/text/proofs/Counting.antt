@@ -1,6 +1,7 @@
 -- What a text leaves of a sink: the count, the same space, and the text in it where it fits.
-use Rattle.std.proofs.Common.{◌≡◌, ℕ, suc, ◌+◌, ◌<◌, ◌≤◌, List, [], ◌∷◌, ◌++◌, length, min, drop, slice_set, sym, refl, ap, ◌∙◌, zero-add, arith}
+use Rattle.std.proofs.Common.{◌≡◌, ℕ, suc, ◌+◌, ◌<◌, ◌≤◌, List, [], ◌∷◌, ◌++◌, length, min, drop, slice_set, sym, refl, ap, ◌∙◌, zero-add, append-nil, arith}
 use Rattle.std.proofs.lemmas.Bool.{cond-true, le-leb}
+use Rattle.std.proofs.lemmas.List.{drop_all}
 use Rattle.std.proofs.lemmas.List.Edits.{sets, sets-eq}
 use Rattle.text.specs.declared.sink.Sink.{Sink}
 use Rattle.text.specs.Writing.{longest, with_byte, with_text, told_length, filled}
@@ -39,3 +40,9 @@ written_where_it_fits t a none fits short =
     let all : length t ≤ length s = omega arith in
     written-sets t a (omega arith) ∙ ap (λ (k : ℕ). sets s k t) none ∙ sets-eq t s 0 (omega arith) ∙ ap (λ (k : ℕ). t ++ drop k s) (zero-add (length t))
     ∙ sym (cond-true _ _ _ (le-leb _ _ all))
+
+-- a space that is as long as the text needs is filled by it
+pub filled_exactly : (t old : List ℕ) → length old ≡ told_length t → length old < longest → filled t old ≡ t
+filled_exactly t old e short =
+    let all : length t ≤ length old = omega (arith, e) in
+    cond-true _ _ _ (le-leb _ _ all) ∙ ap (λ l. t ++ l) (drop_all (length t) old (omega (arith, e))) ∙ append-nil t

@@ -20,3 +20,4 @@ pub mod WrittenColumns
 pub mod Counting
 pub mod Going
 pub mod Deciding
+pub mod Shortness

@@ -33,14 +33,14 @@ held_long : (v : List ℕ) → label_room < length v → length (held_bytes (hel
 held_long v h = ap length (held_front v) ∙ length-take label_room v ∙ omega arith
 
 -- what is kept is a label exactly where the whole is
-legal-held : (v : List ℕ) → legal (held_bytes (held v)) ≡ legal v
+pub legal-held : (v : List ℕ) → legal (held_bytes (held v)) ≡ legal v
 legal-held v =
     ⊎_elim
     (λ (long : label_room < length v). long_illegal (held_bytes (held v)) (omega (arith, held_long v long)) ∙ sym (long_illegal v (omega arith)))
     (λ short. ap legal (held_short v short))
     (cases_lt label_room (length v))
 
-held-legal : (v : List ℕ) → legal v ≡ true → held_bytes (held v) ≡ v
+pub held-legal : (v : List ℕ) → legal v ≡ true → held_bytes (held v) ≡ v
 held-legal v h = held_short v (omega (arith, legal_short v h))
 
 -- so a station made with what is kept is the one made with the whole, or both are refused

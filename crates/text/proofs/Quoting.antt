@@ -1,6 +1,5 @@
 -- Quotes taken off: what a field means, where what it means has no quote.
-use Rattle.std.proofs.Common.{◌≡◌, ℕ, ◌+◌, ◌%◌, ◌^◌, ◌<◌, Bool, List, [], ◌∷◌, ◌++◌, length, codes, Option, Some, None, refl, ap, arith, rules}
-use Rattle.std.specs.Bool.{Decides}
+use Rattle.std.proofs.Common.{◌≡◌, ℕ, ◌+◌, ◌%◌, ◌^◌, ◌<◌, List, [], ◌∷◌, ◌++◌, length, codes, Option, Some, None, Err, refl, ap, arith, rules}
 use Rattle.std.specs.Fmt.{decimal}
 use Rattle.std.specs.List.{AllByRecursion}
 use Rattle.std.proofs.lemmas.Fmt.{decimal_by_steps}
@@ -9,7 +8,11 @@ use Rattle.station.specs.declared.record.Status.TheVariants.{Judged, Down, Up, B
 use Rattle.station.specs.Words.{status_word}
 use Rattle.text.specs.declared.words.KindName.{KindName}
 use Rattle.text.specs.declared.words.KindName.TheVariants.{Runs, Counts, Residues, Costs}
-use Rattle.text.specs.Columns.{IsNumber, IsWord, IsStatus, kind_word, IsKind}
+use Rattle.text.specs.declared.fault.RecordFault.{RecordFault}
+use Rattle.text.specs.declared.fault.RecordFault.TheVariants.{Unknown}
+use Rattle.text.specs.declared.words.Verb.{Verb}
+use Rattle.text.specs.declared.words.Verb.TheVariants as verbs
+use Rattle.text.specs.Columns.{IsNumber, IsWord, IsStatus, kind_word, IsKind, verb_word, IsVerb, OrFault}
 use Rattle.text.specs.Contents.{halved, inner, content}
 use Rattle.text.specs.Grammar.{Plain}
 
@@ -40,8 +43,16 @@ plain_kind Counts = search rules
 plain_kind Residues = search rules
 plain_kind Costs = search rules
 
-pub plain_add : Plains (codes "add")
-plain_add = search rules
+pub plain_verb : (v : Verb) → Plains (verb_word v)
+plain_verb verbs.Line = search rules
+plain_verb verbs.Add = search rules
+plain_verb verbs.Close = search rules
+plain_verb verbs.Set = search rules
+plain_verb verbs.Try = search rules
+plain_verb verbs.Keep = search rules
+plain_verb verbs.Back = search rules
+plain_verb verbs.Ask = search rules
+plain_verb verbs.Ring = search rules
 
 -- where no quote is left, there was none
 unhalved : (m w : List ℕ) → Plains w → halved m ≡ w → m ≡ w
@@ -74,5 +85,8 @@ status_meant = word_meant status_word plain_status
 pub kind_meant : (r : List ℕ) (x : Option KindName) → IsKind (inner r) x → IsKind (content r) x
 kind_meant = word_meant kind_word plain_kind
 
-pub add_meant : (r : List ℕ) (b : Bool) → Decides b (inner r ≡ codes "add") → Decides b (content r ≡ codes "add")
-add_meant r b d = (λ t. meant_from r (codes "add") plain_add (d.0 t), λ e. d.1 (meant_to r (codes "add") plain_add e))
+pub verb_meant : (r : List ℕ) (x : Option Verb) → IsVerb (inner r) x → IsVerb (content r) x
+verb_meant = word_meant verb_word plain_verb
+
+pub no_add : (v : List ℕ) (f : RecordFault) → OrFault (IsVerb v) Unknown (Err f) → v ≡ codes "add" → ⊥
+no_add v f none is = none.0 verbs.Add is

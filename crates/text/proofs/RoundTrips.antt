@@ -19,7 +19,8 @@ use Rattle.text.specs.RoundTrip.{GivesBack, ReadsBack}
 use Rattle.text.specs.StationText.{is_mark, label_text, station_columns, station_text, stations_text}
 use Rattle.text.specs.Stored.{Stored}
 use Rattle.text.proofs.Meaning.{columns_of-record_of}
-use Rattle.text.proofs.Quoting.{Plains, plain_add, plain_status, plain_decimal}
+use Rattle.text.specs.declared.words.Verb.TheVariants as verbs
+use Rattle.text.proofs.Quoting.{Plains, plain_verb, plain_status, plain_decimal}
 
 begins_reads : (s : List ℕ) (p : ℕ) (pieces : List Piece) (rest : List ℕ) → Begins (drop p s) pieces rest
     → Reads s p (record_of p (raws pieces) (length s - length rest))
@@ -59,7 +60,7 @@ unfolding station_pieces
 station_row x h = (
   omega arith,
   (
-    plain plain_add,
+    plain (plain_verb verbs.Add),
     (
       label_field (label_of x.label) (and_parts _ _ (stored_label x h)).1,
       (plain (plain_status x.status), (plain (plain_decimal x.up h.up_fits), (plain (plain_decimal x.down h.down_fits), tt))),

@@ -10,7 +10,7 @@ use Rattle.station.specs.Labels.{label_refusal, station_with}
 use Rattle.text.specs.declared.record.Record.{Record}
 use Rattle.text.specs.declared.add.AddColumns.{AddColumns}
 use Rattle.text.specs.declared.fault.RecordFault.{RecordFault}
-use Rattle.text.specs.declared.fault.RecordFault.TheVariants.{Unknown, NotANumber, NotAWord, Line}
+use Rattle.text.specs.declared.fault.RecordFault.TheVariants.{Unknown, NotANumber, NotAWord, OutOfTurn, Line}
 use Rattle.text.specs.Places.{nowhere, raw_at}
 use Rattle.text.specs.Contents.{content}
 use Rattle.text.specs.Columns.{Says, IsNumber, IsStatus}
@@ -44,6 +44,7 @@ abbrev pub ColumnFault : List ℕ → Record → RecordFault → Type 0
 ColumnFault s x Unknown = IsAdd s x → ⊥
 ColumnFault s x (NotAWord p) = IsAdd s x × IsStatus (column s x 2) None × (p ≡ column_place x 2)
 ColumnFault s x (NotANumber p) = IsAdd s x × (status : Status) × (column s x 2 ≡ status_word status) × CodeFault s x p
+ColumnFault s x OutOfTurn = ⊥
 ColumnFault s x (Line r) = ⊥
 
 -- the columns of an add record, or their first fault

@@ -1,7 +1,8 @@
 -- The text of an answer.
--- Words: figure_columns, refused_columns, answer_columns, answer_text.
-use Rattle.std.specs.Prelude.{ℕ, List, [], ◌∷◌, codes}
+-- Words: figure_columns, refused_columns, answer_columns, answer_text, answers_text, longest_answer, IsShort.
+use Rattle.std.specs.Prelude.{ℕ, ◌≤◌, List, [], ◌∷◌, length, codes}
 use Rattle.std.specs.Fmt.{decimal}
+use Rattle.std.specs.List.{flat_map}
 use Rattle.text.specs.declared.answer.Figures.{Figures}
 use Rattle.text.specs.declared.answer.Answer.{Answer}
 use Rattle.text.specs.declared.answer.Answer.TheVariants.{Done, Ask, Ring, No}
@@ -24,3 +25,13 @@ answer_columns (No r) = codes "no" ∷ refused_columns r
 
 abbrev pub answer_text : Answer → List ℕ
 answer_text a = line_of (answer_columns a)
+
+abbrev pub answers_text : List Answer → List ℕ
+answers_text = flat_map answer_text
+
+-- no answer is longer: `ring`, three numbers of 20 digits, and what stands between and behind them
+abbrev pub longest_answer : ℕ
+longest_answer = 69
+
+abbrev pub IsShort : Answer → Type 0
+IsShort a = length (answer_text a) ≤ longest_answer

@@ -1,5 +1,5 @@
--- What a column says: a number, or one of the words for statuses and kinds.
--- Words: Says, IsNumber, IsWord, IsStatus, kind_word, IsKind, OrFault.
+-- What a column says: a number, or one of the words for statuses, kinds and verbs.
+-- Words: Says, IsNumber, IsWord, IsStatus, kind_word, IsKind, verb_word, IsVerb, OrFault.
 use Rattle.std.specs.Prelude.{◌≡◌, ◌≢◌, ℕ, ◌<◌, ◌^◌, List, codes, Option, Some, None, Result, Ok, Err}
 use Rattle.std.specs.Fmt.{decimal}
 use Rattle.station.specs.declared.record.Status.{Status}
@@ -7,6 +7,8 @@ use Rattle.station.specs.Words.{status_word}
 use Rattle.text.specs.declared.fault.RecordFault.{RecordFault}
 use Rattle.text.specs.declared.words.KindName.{KindName}
 use Rattle.text.specs.declared.words.KindName.TheVariants.{Runs, Counts, Residues, Costs}
+use Rattle.text.specs.declared.words.Verb.{Verb}
+use Rattle.text.specs.declared.words.Verb.TheVariants as verbs
 
 -- n has at most 64 bits, and the bytes are its decimal text, which has no needless zero in front
 abbrev pub Says : ℕ → List ℕ → Type 0
@@ -33,6 +35,20 @@ kind_word Costs = codes "costs"
 
 abbrev pub IsKind : List ℕ → Option KindName → Type 0
 IsKind = IsWord kind_word
+
+abbrev pub verb_word : Verb → List ℕ
+verb_word verbs.Line = codes "line"
+verb_word verbs.Add = codes "add"
+verb_word verbs.Close = codes "close"
+verb_word verbs.Set = codes "set"
+verb_word verbs.Try = codes "try"
+verb_word verbs.Keep = codes "keep"
+verb_word verbs.Back = codes "back"
+verb_word verbs.Ask = codes "ask"
+verb_word verbs.Ring = codes "ring"
+
+abbrev pub IsVerb : List ℕ → Option Verb → Type 0
+IsVerb = IsWord verb_word
 
 -- what a column says, or the fault where it says nothing of the sort
 abbrev pub OrFault : {A : Type 0} → (Option A → Type 0) → RecordFault → Result A RecordFault → Type 0

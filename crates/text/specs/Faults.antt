@@ -17,11 +17,13 @@ abbrev pub record_fault_number : RecordFault → ℕ
 record_fault_number of_record.Unknown = 21
 record_fault_number (of_record.NotANumber p) = 22
 record_fault_number (of_record.NotAWord p) = 23
+record_fault_number of_record.OutOfTurn = 24
 record_fault_number (of_record.Line r) = number r
 
 abbrev pub number_of : TextFault → ℕ
 number_of (of_text.NotWellFormed p) = 20
 number_of (of_text.Record f) = record_fault_number f
+number_of of_text.TooLong = 25
 
 -- a kind that cannot be, by k or m, is the record's fault; all others are the line's own
 abbrev pub refusal_layer : Refusal → Layer
@@ -42,11 +44,13 @@ abbrev pub record_layer : RecordFault → Layer
 record_layer of_record.Unknown = layers.Record
 record_layer (of_record.NotANumber p) = layers.Record
 record_layer (of_record.NotAWord p) = layers.Record
+record_layer of_record.OutOfTurn = layers.Record
 record_layer (of_record.Line r) = refusal_layer r
 
 abbrev pub layer_of : TextFault → Layer
 layer_of (of_text.NotWellFormed p) = layers.Text
 layer_of (of_text.Record f) = record_layer f
+layer_of of_text.TooLong = layers.Text
 
 abbrev pub layer_number : Layer → ℕ
 layer_number layers.Text = 1
@@ -58,11 +62,13 @@ abbrev pub record_place : ℕ → RecordFault → ℕ
 record_place start of_record.Unknown = start
 record_place start (of_record.NotANumber p) = p
 record_place start (of_record.NotAWord p) = p
+record_place start of_record.OutOfTurn = start
 record_place start (of_record.Line r) = start
 
 abbrev pub place_of : ℕ → TextFault → ℕ
 place_of start (of_text.NotWellFormed p) = p
 place_of start (of_text.Record f) = record_place start f
+place_of start of_text.TooLong = start
 
 -- the refusal at a record that begins at start. Bytes count from 1; no text is so long that the count would stop at the greatest number
 abbrev pub refused_at : TextFault → ℕ → ℕ → Refused

@@ -4,11 +4,10 @@ ghost use Rattle.std.specs.Prelude.{◌≡◌, codes};
 ghost use Rattle.refusal.specs.Refusals.{told};
 ghost use Rattle.text.specs.Adding.{column, IsAdd, AddColumnsAre, StationIs, made_of};
 
-use crate::column::unquoted;
 use crate::fault::RecordFault;
 use crate::label::LabelColumn;
 use crate::record::Record;
-use crate::words::is_add_verb;
+use crate::words::Verb;
 use refusal::Refusal;
 use station::record::{Station, Status};
 
@@ -31,11 +30,10 @@ impl AddColumns {
 }
 
 impl Record {
-    #[tactic(auto, using(crate::proofs::Quoting::add_meant))]
     fn has_add_verb(&self, text: &[u8]) -> bool
         ensures { Decides result (column text.now self.now 0 ≡ codes "add") }
     {
-        is_add_verb(unquoted(self.fields[0].raw(text)))
+        matches!(self.fields[0].verb(text), Ok(Verb::Add))
     }
 
     // Whether it has the verb and the number of columns of an add record.

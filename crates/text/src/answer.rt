@@ -1,8 +1,8 @@
 // Answers, and their text.
-ghost use Rattle.std.specs.Prelude.{◌≡◌, map, ⊤};
+ghost use Rattle.std.specs.Prelude.{◌≡◌, map};
 ghost use Rattle.std.specs.Fmt.{decimal};
-ghost use Rattle.text.specs.AnswerText.{figure_columns, refused_columns, answer_text};
-ghost use Rattle.text.specs.Writing.{told_length, filled};
+ghost use Rattle.text.specs.AnswerText.{figure_columns, refused_columns, answer_text, IsShort};
+ghost use Rattle.text.specs.Writing.{with_text, told_length, filled};
 
 use crate::fault::Refused;
 use crate::sink::Sink;
@@ -46,19 +46,27 @@ impl Refused {
     }
 }
 
+// The answer is handed over by value, so that the range of its numbers is known.
+#[tactic(auto, using(crate::proofs::Shortness::done_short, crate::proofs::Shortness::ask_short, crate::proofs::Shortness::ring_short, crate::proofs::Shortness::no_short))]
+fn put_answer(answer: Answer, sink: &mut Sink<'_>)
+    ensures text { sink.new ≡ with_text (answer_text answer) sink.old }
+    ensures known { IsShort answer }
+{
+    match answer {
+        Answer::Done(n) => sink.line(b"ok", &[n]),
+        Answer::Ask(figures) => sink.line(b"ask", &figures.columns()),
+        Answer::Ring(figures) => sink.line(b"ring", &figures.columns()),
+        Answer::No(refused) => sink.line(b"no", &refused.columns()),
+    }
+}
+
 impl Written for Answer {
     ghost text = { answer_text };
 
-    // nothing has to be known of an answer
-    ghost Known = { λ _. ⊤ };
+    ghost Known = { IsShort };
 
     fn put(&self, sink: &mut Sink<'_>) {
-        match self {
-            Answer::Done(n) => sink.line(b"ok", &[*n]),
-            Answer::Ask(figures) => sink.line(b"ask", &figures.columns()),
-            Answer::Ring(figures) => sink.line(b"ring", &figures.columns()),
-            Answer::No(refused) => sink.line(b"no", &refused.columns()),
-        }
+        put_answer(*self, sink);
     }
 }
 
@@ -67,6 +75,7 @@ impl Answer {
     pub fn write(&self, out: &mut [u8]) -> usize
         ensures needed { result ≡ told_length (answer_text self.now) }
         ensures written { out.new ≡ filled (answer_text self.now) out.old }
+        ensures short { IsShort self.now }
     {
         write(self, out)
     }

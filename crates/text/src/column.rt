@@ -1,7 +1,7 @@
-// What the fields of a record say: numbers, words and labels. Quotes are no part of what a field means.
+// What the fields of a record say: numbers, words, labels and verbs. Quotes are no part of what a field means.
 ghost use Rattle.std.specs.Prelude.{◌≡◌};
-ghost use Rattle.text.specs.Columns.{IsNumber, IsStatus, IsKind, OrFault};
-ghost use Rattle.text.specs.declared.fault.RecordFault.TheVariants.{NotANumber, NotAWord};
+ghost use Rattle.text.specs.Columns.{IsNumber, IsStatus, IsKind, IsVerb, OrFault};
+ghost use Rattle.text.specs.declared.fault.RecordFault.TheVariants.{Unknown, NotANumber, NotAWord};
 ghost use Rattle.text.specs.Contents.{inner, content, is_quoted};
 ghost use Rattle.text.specs.LabelColumns.{held};
 ghost use Rattle.text.specs.Places.{raw_at};
@@ -10,7 +10,7 @@ use crate::fault::RecordFault;
 use crate::label::LabelColumn;
 use crate::number::decimal_number;
 use crate::record::Field;
-use crate::words::{KindName, kind_named, status_named};
+use crate::words::{KindName, Verb, kind_named, status_named, verb_named};
 use station::record::Status;
 
 // Whether it begins with a quote and has a byte behind that: of the grammar's fields, the quoted ones.
@@ -29,6 +29,14 @@ pub(crate) fn unquoted(raw: &[u8]) -> &[u8]
     } else {
         raw
     }
+}
+
+// The verb that the field means, with or without quotes.
+#[tactic(auto, using(crate::proofs::Quoting::verb_meant))]
+fn verb_meant(raw: &[u8]) -> Option<Verb>
+    ensures { IsVerb (content raw.now) result }
+{
+    verb_named(unquoted(raw))
 }
 
 impl Field {
@@ -62,6 +70,13 @@ impl Field {
         ensures { OrFault (IsKind (content (raw_at text.now self.now))) (NotAWord self.now.from) result }
     {
         kind_named(unquoted(self.raw(text))).ok_or(RecordFault::NotAWord(self.from))
+    }
+
+    // The verb that the record's first field is.
+    pub fn verb(&self, text: &[u8]) -> Result<Verb, RecordFault>
+        ensures { OrFault (IsVerb (content (raw_at text.now self.now))) Unknown result }
+    {
+        verb_meant(self.raw(text)).ok_or(RecordFault::Unknown)
     }
 
     // What the field means, as bytes for a label, whether they are one or not.

@@ -15,6 +15,8 @@ pub enum RecordFault {
     NotANumber(usize),
     // a column is none of the words that it could be; its first byte is at this place of the text
     NotAWord(usize),
+    // no record that the session takes where it is
+    OutOfTurn,
     // the call that the record stands for is refused
     Line(Refusal),
 }
@@ -25,6 +27,8 @@ pub enum TextFault {
     // no record begins there, and the first impossible byte is at this place of the text
     NotWellFormed(usize),
     Record(RecordFault),
+    // it is longer than it may be
+    TooLong,
 }
 
 // Where a refusal comes from.
@@ -79,6 +83,7 @@ impl RecordFault {
             RecordFault::Unknown => 21,
             RecordFault::NotANumber(_) => 22,
             RecordFault::NotAWord(_) => 23,
+            RecordFault::OutOfTurn => 24,
             RecordFault::Line(refusal) => u8::from(refusal),
         }
     }
@@ -98,7 +103,7 @@ impl RecordFault {
     {
         match self {
             RecordFault::NotANumber(place) | RecordFault::NotAWord(place) => place,
-            RecordFault::Unknown | RecordFault::Line(_) => start,
+            RecordFault::Unknown | RecordFault::OutOfTurn | RecordFault::Line(_) => start,
         }
     }
 }
@@ -111,6 +116,7 @@ impl TextFault {
         match self {
             TextFault::NotWellFormed(_) => 20,
             TextFault::Record(fault) => fault.number(),
+            TextFault::TooLong => 25,
         }
     }
 
@@ -118,7 +124,7 @@ impl TextFault {
         ensures { result ≡ layer_of self }
     {
         match self {
-            TextFault::NotWellFormed(_) => Layer::Text,
+            TextFault::NotWellFormed(_) | TextFault::TooLong => Layer::Text,
             TextFault::Record(fault) => fault.layer(),
         }
     }
@@ -130,6 +136,7 @@ impl TextFault {
         match self {
             TextFault::NotWellFormed(place) => place,
             TextFault::Record(fault) => fault.place(start),
+            TextFault::TooLong => start,
         }
     }
 

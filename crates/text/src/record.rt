@@ -96,3 +96,13 @@ pub fn read_record(text: &[u8], at: usize) -> Option<Result<Record, Damage>>
 {
     found_at(text, at)
 }
+
+// Where the text goes on behind what was found.
+pub fn next_place(found: Result<Record, Damage>) -> usize
+    ensures { result ≡ next_of found }
+{
+    match found {
+        Ok(record) => record.next,
+        Err(damage) => damage.next,
+    }
+}

@@ -1,7 +1,6 @@
-// The words for kinds and statuses, and the verb of add records.
-ghost use Rattle.std.specs.Prelude.{◌≡◌, codes};
-ghost use Rattle.std.specs.Bool.{Decides};
-ghost use Rattle.text.specs.Columns.{IsStatus, IsKind};
+// The words for kinds, statuses and verbs.
+ghost use Rattle.std.specs.Prelude.{◌≡◌};
+ghost use Rattle.text.specs.Columns.{IsStatus, IsKind, IsVerb};
 
 use station::record::Status;
 
@@ -12,6 +11,20 @@ pub enum KindName {
     Counts,
     Residues,
     Costs,
+}
+
+// What the records of a session are about.
+#[derive(Clone, Copy, PartialEq, Eq)]
+pub enum Verb {
+    Line,
+    Add,
+    Close,
+    Set,
+    Try,
+    Keep,
+    Back,
+    Ask,
+    Ring,
 }
 
 // The status whose word this is.
@@ -40,8 +53,20 @@ pub(crate) fn kind_named(word: &[u8]) -> Option<KindName>
     }
 }
 
-pub(crate) fn is_add_verb(word: &[u8]) -> bool
-    ensures { Decides result (word.now ≡ codes "add") }
+// The verb whose word this is.
+pub(crate) fn verb_named(word: &[u8]) -> Option<Verb>
+    ensures { IsVerb word.now result }
 {
-    matches!(word, b"add")
+    match word {
+        b"line" => Some(Verb::Line),
+        b"add" => Some(Verb::Add),
+        b"close" => Some(Verb::Close),
+        b"set" => Some(Verb::Set),
+        b"try" => Some(Verb::Try),
+        b"keep" => Some(Verb::Keep),
+        b"back" => Some(Verb::Back),
+        b"ask" => Some(Verb::Ask),
+        b"ring" => Some(Verb::Ring),
+        _ => None,
+    }
 }
