@@ -1,4 +1,5 @@
 // A semiring whose product does not commute, to hold against what is promised of every semiring.
+ghost use Rattle.std.specs.Prelude.{true};
 ghost use Rattle.examples.specs.FirstDecides.{first_decides};
 ghost use Rattle.std.proofs.Common.{rules};
 
@@ -13,7 +14,16 @@ const MOST: u64 = 3;
 impl Semiring for FirstDecides {
     ghost ops = { λ _. first_decides };
 
+    // A total is the code itself, and needs no bound.
+    ghost code = { λ _ t. t };
+
+    ghost step = { λ _. 18446744073709551616 };
+
+    ghost plain = { λ _ _. true };
+
     ghost lawful = { Prim.search rules };
+
+    ghost starts = { Prim.search rules };
 
     fn is_member(&self, x: u64) -> bool {
         x <= MOST
@@ -40,5 +50,17 @@ impl Semiring for FirstDecides {
             return 0;
         }
         if x == 2 { y } else { x }
+    }
+
+    fn is_plain(&self, _x: u64) -> bool {
+        true
+    }
+
+    fn plus_product(&self, total: u64, x: u64, y: u64) -> u64 {
+        self.sum(total, self.product(x, y))
+    }
+
+    fn settle(&self, total: u64) -> u64 {
+        total
     }
 }

@@ -1,22 +1,25 @@
--- What a code adds to a row of a product, and why one that is zero or no member may be passed over.
-use Rattle.std.proofs.Common.{◌≡◌, ℕ, ◌+◌, ◌≤◌, false, ◌⊎◌, List, length, get_or, take, drop, ap, ◌∙◌, arith, length-drop}
+-- What a code adds to a row of a product, and why one that makes no sum greater may be passed over.
+use Rattle.std.proofs.Common.{◌≡◌, ℕ, ◌+◌, ◌*◌, ◌<◌, ◌≤◌, List, length, get_or, take, drop, ap, add-mul, one-mul, arith, length-drop}
+use Rattle.std.proofs.Math.Nat.{mul-le-mul_right}
 use Rattle.std.specs.List.{range_with_len}
 use Rattle.std.proofs.lemmas.List.{length-take, get_or-take, get_or-drop}
 use Rattle.std.proofs.lemmas.List.FromFn.{fill_by_all}
-use Rattle.semiring.specs.Algebra.{SemiringOps, SemiringLaws, In, sum_of, sum_over}
+use Rattle.semiring.specs.Algebra.{SemiringOps, SemiringLaws, sum_of, sum_over}
 use Rattle.semiring.proofs.Sums.{sum_over_more, sum_over_member}
 use Rattle.matrix.specs.declared.plain.Matrix.{Matrix}
 use Rattle.matrix.specs.Matrix.{at, row_entry}
 
--- a factor that is zero or no member adds nothing
-passed : (S : SemiringOps) (L : SemiringLaws S) (t x y : ℕ) → In S t → (x ≡ S.zero) ⊎ (S.member x ≡ false) → S.sum t (S.product x y) ≡ t
-passed S L t x y ht out = grind (arith, L.zero_left y, L.product_out x y, L.sum_comm t S.zero, L.sum-zero t, L.zero_in)
-
--- a turn over code l of the left row adds its product with a code of b, which is nothing where it is zero or no member
-pub turn : (S : SemiringOps) (l : ℕ) (left : List ℕ) (b : Matrix) (q : ℕ) → SemiringLaws S → (row_entry S (l + 1) left b q ≡ S.sum (row_entry S l left b q) (S.product (get_or left l 0) (at b l q))) × ((get_or left l 0 ≡ S.zero) ⊎ (S.member (get_or left l 0) ≡ false) → row_entry S (l + 1) left b q ≡ row_entry S l left b q)
+-- a turn over code l of the left row adds its product with a code of b, which is nothing where that is zero
+pub turn : (S : SemiringOps) (l : ℕ) (left : List ℕ) (b : Matrix) (q : ℕ) → SemiringLaws S → (row_entry S (l + 1) left b q ≡ S.sum (row_entry S l left b q) (S.product (get_or left l 0) (at b l q))) × (S.product (get_or left l 0) (at b l q) ≡ S.zero → row_entry S (l + 1) left b q ≡ row_entry S l left b q)
 turn S l left b q L =
     let more = sum_over_more S (λ n. S.product (get_or left n 0) (at b n q)) l in
-    (more, λ out. more ∙ passed S L _ _ _ (sum_over_member S L _ (range_with_len 0 l)) out)
+    let t = row_entry S l left b q in
+    let member = sum_over_member S L (λ n. S.product (get_or left n 0) (at b n q)) (range_with_len 0 l) in
+    (more, λ is_zero. grind (arith, more, is_zero, L.sum_comm t S.zero member L.zero_in, L.sum-zero t member))
+
+-- l products leave room for one more of nine
+pub room : (l step : ℕ) → l < 9 → ((l + 1) * step ≤ 9 * step) × ((l + 1 + 1) * step ≡ (l + 1) * step + step)
+room l step few = (mul-le-mul_right step (omega arith), cc (add-mul (l + 1) 1 step, one-mul step))
 
 -- the sum of a stretch of a row, by its places
 pub stretch_sum : (S : SemiringOps) (xs : List ℕ) (a n : ℕ) → a + n ≤ length xs → sum_of S (take n (drop a xs)) ≡ sum_over S (λ r. get_or xs (a + r) 0) (range_with_len 0 n)

@@ -1,6 +1,6 @@
 -- Matrices of nine rows of nine codes, of which the first w rows and columns are used.
--- Words: row, at, used, table_row, table, row_entry, entry, joined, delta, unit_matrix, Fit.
-use Rattle.std.specs.Prelude.{◌≡◌, ℕ, ◌<◌, false, cond, ◌&&◌, List, [], map, length, ◌==◌, nat_lt, slice_index, slice_index_or}
+-- Words: row, at, used, table_row, table, row_entry, entry, joined, PlainRow, AllPlain, delta, unit_matrix, Fit.
+use Rattle.std.specs.Prelude.{◌≡◌, ℕ, ◌<◌, Bool, true, false, cond, ◌&&◌, List, [], map, length, ◌==◌, nat_lt, slice_index, slice_index_or}
 use Rattle.std.specs.List.{range_with_len}
 use Rattle.semiring.specs.Algebra.{SemiringOps, In, sum_over}
 use Rattle.matrix.specs.declared.plain.Matrix.{Matrix}
@@ -32,6 +32,13 @@ entry S w a b i j = row_entry S w (row a i) b j
 
 abbrev pub joined : SemiringOps → ℕ → Matrix → Matrix → Matrix
 joined S w a b = table w (entry S w a b)
+
+-- the used codes of a row pass a test, and those of a matrix
+abbrev pub PlainRow : (ℕ → Bool) → ℕ → List ℕ → Type 0
+PlainRow plain w codes = (j : ℕ) → j < w → plain (slice_index codes j) ≡ true
+
+abbrev pub AllPlain : (ℕ → Bool) → ℕ → Matrix → Type 0
+AllPlain plain w m = (i : ℕ) → i < w → PlainRow plain w (row m i)
 
 -- one on the diagonal
 abbrev pub delta : SemiringOps → ℕ → ℕ → ℕ

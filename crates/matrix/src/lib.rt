@@ -5,4 +5,5 @@ pub mod chain;
 pub mod figures;
 pub mod plain;
 pub mod product;
+mod stepwise;
 pub mod threshold;

@@ -1,8 +1,8 @@
 -- Whole numbers under a reduction are a semiring: the one argument for counts and residues.
-use Rattle.std.specs.Prelude.{◌≡◌, ℕ, ◌+◌, ◌*◌, Bool, true}
-use Rattle.std.proofs.Common.{add_assoc, add_comm, zero-add, mul_assoc, mul_comm, mul-add, add-mul, one-mul, mul-one, zero-mul, mul-zero}
+use Rattle.std.specs.Prelude.{◌≡◌, ℕ, ◌+◌, ◌*◌, ◌≤◌, Bool, true}
+use Rattle.std.proofs.Common.{add_assoc, add_comm, zero-add, mul_assoc, mul_comm, mul-add, add-mul, one-mul, mul-one, zero-mul, mul-zero, arith}
 use Rattle.semiring.specs.Algebra.{SemiringLaws}
-use Rattle.semiring.specs.Models.{reduced}
+use Rattle.semiring.specs.Models.{reduced, guarded}
 
 -- a reduction leaves members as they are, and may be made before a sum or a product
 pub record Reduction (member : ℕ → Bool) (reduce : ℕ → ℕ) : Type 0 where
@@ -19,6 +19,14 @@ module _ (member : ℕ → Bool) (reduce : ℕ → ℕ) (R : Reduction member re
 
   after_product : (a z : ℕ) → reduce (z * reduce a) ≡ reduce (z * a)
   after_product a z = rw (mul_comm z (reduce a), mul_comm z a) (R.before_product a z)
+
+  pub reduced_starts : (step : ℕ) → (reduce 0 ≡ 0) × (0 ≤ step)
+  reduced_starts step = (R.same 0 R.zero_in, omega arith)
+
+  -- the reduction of a total and a product together is the sum of both reduced
+  pub plus_reduced : (t x y : ℕ) → member x ≡ true → member y ≡ true
+      → guarded member 0 (λ a b. reduce (a + b)) (reduce t) (guarded member 0 (λ a b. reduce (a * b)) x y) ≡ reduce (t + x * y)
+  plus_reduced t x y hx hy = simp (hx, hy, R.reduced_in, R.before_sum, after_sum)
 
   pub reduced_lawful : SemiringLaws (reduced member reduce)
   reduced_lawful = record {

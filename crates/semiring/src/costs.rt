@@ -1,5 +1,6 @@
 // Costs: 0 to 1,000,000,000,000, and a code for none. Sum is the lesser, product is addition that stops.
-ghost use Rattle.semiring.specs.Models.{costs};
+ghost use Rattle.std.specs.Prelude.{min, true};
+ghost use Rattle.semiring.specs.Models.{costs, none};
 ghost use Rattle.std.proofs.Common.{rules};
 
 use crate::Semiring;
@@ -15,7 +16,17 @@ const NONE: u64 = 1_000_000_000_001;
 impl Semiring for Costs {
     ghost ops = { λ _. costs };
 
+    ghost code = { λ _ t. min t none };
+
+    // above every total: costs need no bound on one
+    ghost step = { λ _. 18446744073709551616 };
+
+    // all codes: each product is tested for none anyway
+    ghost plain = { λ _ _. true };
+
     ghost lawful = { Prim.search rules };
+
+    ghost starts = { Prim.search rules };
 
     fn is_member(&self, x: u64) -> bool {
         x <= NONE
@@ -42,5 +53,26 @@ impl Semiring for Costs {
             return NONE;
         }
         (x + y).min(MOST)
+    }
+
+    // None, and codes that are no members. A product has the same test, which the compiler then makes once a row.
+    fn adds_nothing(&self, x: u64) -> bool {
+        x >= NONE
+    }
+
+    fn is_plain(&self, _x: u64) -> bool {
+        true
+    }
+
+    // A product that is none leaves any total as it is.
+    fn plus_product(&self, total: u64, x: u64, y: u64) -> u64 {
+        if y >= NONE || x >= NONE {
+            return total;
+        }
+        total.min((x + y).min(MOST))
+    }
+
+    fn settle(&self, total: u64) -> u64 {
+        total.min(NONE)
     }
 }

@@ -1,7 +1,7 @@
 // Semirings on codes: the interface, a list's sum and product, and the three that are shipped.
 #![tactic(auto)]
 
-ghost use Rattle.std.specs.Prelude.{◌≡◌};
+ghost use Rattle.std.specs.Prelude.{◌≡◌, ℕ, ◌+◌, ◌*◌, ◌≤◌, Bool, true};
 ghost use Rattle.semiring.specs.Algebra.{SemiringOps, SemiringLaws, sum_of, product_of};
 
 pub mod costs;
@@ -30,7 +30,37 @@ pub trait Semiring: Copy {
     fn product(&self, x: u64, y: u64) -> u64
         ensures { result ≡ (ops self.now).product x y };
 
+    // Whether x is seen to make any product zero from the left, so that it may be passed over.
+    fn adds_nothing(&self, x: u64) -> bool
+        ensures { result ≡ true → (y : ℕ) → (ops self.now).product x y ≡ (ops self.now).zero }
+    {
+        x == self.zero()
+    }
+
+    // A sum of products may be built as a total that is no member yet, so that a reduction can wait. These say which code a total stands
+    // for, how much a product adds to a total at most, and which codes are plain: those that need no test with each product.
+    ghost code: { Self → ℕ → ℕ };
+
+    ghost step: { Self → ℕ };
+
+    ghost plain: { Self → ℕ → Bool };
+
+    fn is_plain(&self, x: u64) -> bool
+        ensures { result ≡ plain self.now x };
+
+    // The total with the product of two plain codes, if the total is small enough for it. From zero on, nine products can be added.
+    fn plus_product(&self, total: u64, x: u64, y: u64) -> u64
+        ensures within { plain self.now x ≡ true → plain self.now y ≡ true → result ≤ total + step self.now }
+        ensures adds { plain self.now x ≡ true → plain self.now y ≡ true → total ≤ 9 * step self.now
+            → code self.now result ≡ (ops self.now).sum (code self.now total) ((ops self.now).product x y) };
+
+    // The code that a total stands for.
+    fn settle(&self, total: u64) -> u64
+        ensures { result ≡ code self.now total };
+
     ghost lawful: { (s : Self) → SemiringLaws (ops s) };
+
+    ghost starts: { (s : Self) → (code s (ops s).zero ≡ (ops s).zero) × ((ops s).zero ≤ step s) };
 }
 
 // The sum of the codes, from zero, left to right.

@@ -1,7 +1,7 @@
 // Whole numbers under a reduction: the one implementation for counts and residues.
-ghost use Rattle.std.specs.Prelude.{◌≡◌, ℕ, ◌<◌, Bool, true};
+ghost use Rattle.std.specs.Prelude.{◌≡◌, ℕ, ◌+◌, ◌*◌, ◌<◌, ◌≤◌, Bool, true};
 ghost use Rattle.semiring.specs.Models.{reduced};
-ghost use Rattle.semiring.specs.Reduced.{Reduction, reduced_lawful};
+ghost use Rattle.semiring.specs.Reduced.{Reduction, reduced_lawful, reduced_starts};
 
 use crate::Semiring;
 
@@ -17,6 +17,15 @@ pub trait Reduce: Copy {
     fn reduce(&self, n: u64) -> u64
         ensures { result ≡ reduction self.now n };
 
+    // What a product of members adds to a total at most.
+    ghost step: { Self → ℕ };
+
+    // A number with the reduction of the total and the product together, of members and where the total is small enough.
+    fn add_product(&self, total: u64, x: u64, y: u64) -> u64
+        ensures within { member self.now x ≡ true → member self.now y ≡ true → result ≤ total + step self.now }
+        ensures same { member self.now x ≡ true → member self.now y ≡ true → total ≤ 9 * step self.now
+            → reduction self.now result ≡ reduction self.now (total + x * y) };
+
     ghost small: { (s : Self) (n : ℕ) → member s n ≡ true → n < 4294967296 };
 
     ghost lawful: { (s : Self) → Reduction (member s) (reduction s) };
@@ -26,6 +35,14 @@ impl<R: Reduce> Semiring for R {
     ghost ops = { λ r. reduced (R.Reduce.member r) (R.Reduce.reduction r) };
 
     ghost lawful = { λ r. reduced_lawful (R.Reduce.member r) (R.Reduce.reduction r) (R.Reduce.lawful r) };
+
+    ghost code = { λ r. R.Reduce.reduction r };
+
+    ghost step = { λ r. R.Reduce.step r };
+
+    ghost plain = { λ r. R.Reduce.member r };
+
+    ghost starts = { λ r. reduced_starts (R.Reduce.member r) (R.Reduce.reduction r) (R.Reduce.lawful r) (R.Reduce.step r) };
 
     fn is_member(&self, x: u64) -> bool {
         self.is_reduced(x)
@@ -52,5 +69,18 @@ impl<R: Reduce> Semiring for R {
             return 0;
         }
         self.reduce(x * y)
+    }
+
+    fn is_plain(&self, x: u64) -> bool {
+        self.is_member(x)
+    }
+
+    // The reduction waits until the total is settled.
+    fn plus_product(&self, total: u64, x: u64, y: u64) -> u64 {
+        self.add_product(total, x, y)
+    }
+
+    fn settle(&self, total: u64) -> u64 {
+        self.reduce(total)
     }
 }

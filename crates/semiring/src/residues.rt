@@ -10,6 +10,9 @@ impl Reduce for Residues {
 
     ghost reduction = { λ s n. n % s.modulus };
 
+    // above every total: a total is reduced before it would be too great
+    ghost step = { λ _. 18446744073709551616 };
+
     ghost small = { λ s. residues_small s.modulus s.high };
 
     ghost lawful = { λ s. residues_reduction s.modulus s.low };
@@ -20,5 +23,15 @@ impl Reduce for Residues {
 
     fn reduce(&self, n: u64) -> u64 {
         n % self.modulus
+    }
+
+    // A division takes as long as many products, so the total is reduced only where the product does not fit with it.
+    #[tactic(auto, using(crate::proofs::Totals::same_remainder))]
+    fn add_product(&self, total: u64, x: u64, y: u64) -> u64 {
+        let product = x.wrapping_mul(y);
+        match total.checked_add(product) {
+            Some(more) => more,
+            None => self.reduce(total).wrapping_add(product),
+        }
     }
 }

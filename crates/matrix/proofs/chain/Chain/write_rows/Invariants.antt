@@ -1,7 +1,7 @@
 -- Rows before the loop's place are those of the product.
 use Rattle.std.proofs.Common.{◌≡◌, ℕ, ◌<◌, length, get_or, []}
 use Rattle.matrix.specs.Matrix.{table_row, entry}
-use Rattle.matrix.proofs.chain.Chain.join_width.Given as goal
+use Rattle.matrix.proofs.chain.Chain.write_rows.Given as goal
 
 abbrev pub invariant-loop-i : goal.invariant-loop-i
 invariant-loop-i g l =
