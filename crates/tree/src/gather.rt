@@ -8,7 +8,8 @@ use crate::node::read;
 use crate::sum::Sum;
 use kind::Kind;
 
-// Adds to the sum the nodes of the window's largest whole blocks under node i, which has 2^height leaves.
+// Adds to the sum the nodes of the window's largest whole blocks under node i, which has 2^height leaves. The sum is lent, since an
+// element may be large, and most nodes on the way add nothing.
 #[tactic(auto, using(crate::proofs::Gathering::missed, crate::proofs::Gathering::held))]
 pub(crate) fn gather_under<K: Kind>(
     kind: &K,
@@ -16,22 +17,23 @@ pub(crate) fn gather_under<K: Kind>(
     window: Leaves,
     i: usize,
     height: u32,
-    sum: Sum<K::Element>,
-) -> Sum<K::Element>
+    sum: &mut Sum<K::Element>,
+)
     requires small { height ≤ 12 }
     requires low { 1 ≤ i }
     requires few { (i + 1) * 2 ^ height ≤ 8192 }
     requires within { (i + 1) * 2 ^ height ≤ length nodes.now + 1 }
-    requires room { sum.joins + 2 ^ height ≤ 8192 }
-    ensures { result ≡ added_nodes (K.Kind.ops kind.now) nodes.now sum (blocks_under height i window.from window.to) }
+    requires room { sum.old.joins + 2 ^ height ≤ 8192 }
+    ensures { sum.new ≡ added_nodes (K.Kind.ops kind.now) nodes.now sum.old (blocks_under height i window.from window.to) }
 {
     let leaves = Leaves::under(i, height);
     if window.miss(leaves) {
-        return sum;
+        return;
     }
     if window.hold(leaves) {
-        return sum.add(kind, &read(kind, nodes, i));
+        sum.add(kind, &read(kind, nodes, i));
+        return;
     }
-    let left = gather_under(kind, nodes, window, 2 * i, height - 1, sum);
-    gather_under(kind, nodes, window, 2 * i + 1, height - 1, left)
+    gather_under(kind, nodes, window, 2 * i, height - 1, sum);
+    gather_under(kind, nodes, window, 2 * i + 1, height - 1, sum);
 }

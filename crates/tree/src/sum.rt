@@ -31,19 +31,16 @@ impl<E: Copy> Sum<E> {
     }
 
     // One element more at the right.
-    pub(crate) fn add<K: Kind<Element = E>>(self, kind: &K, element: &E) -> Sum<E>
-        requires { self.joins + 1 < 2 ^ 64 }
-        ensures { result ≡ added (K.Kind.ops kind.now) self (Some element.now) }
+    pub(crate) fn add<K: Kind<Element = E>>(&mut self, kind: &K, element: &E)
+        requires { self.old.joins + 1 < 2 ^ 64 }
+        ensures { self.new ≡ added (K.Kind.ops kind.now) self.old (Some element.now) }
     {
-        match self.element {
-            None => Sum {
-                element: Some(*element),
-                joins: self.joins,
-            },
-            Some(left) => Sum {
-                element: Some(kind.join(&left, element)),
-                joins: self.joins + 1,
-            },
+        match &self.element {
+            None => self.element = Some(*element),
+            Some(left) => {
+                self.element = Some(kind.join(left, element));
+                self.joins += 1;
+            }
         }
     }
 

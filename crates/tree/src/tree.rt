@@ -107,6 +107,8 @@ impl<K: Kind> Tree<K> {
     {
         let window = self.shape.window(first, last);
         let height = self.shape.height();
-        gather_under(&self.kind, nodes, window, 1, height, Sum::nothing())
+        let mut sum = Sum::nothing();
+        gather_under(&self.kind, nodes, window, 1, height, &mut sum);
+        sum
     }
 }
