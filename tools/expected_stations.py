@@ -110,4 +110,5 @@ def main():
         out.write(record_text(station))
 
 
-main()
+if __name__ == "__main__":
+    main()

@@ -93,7 +93,7 @@ with_number NoTrial = refl
 with_number JournalFull = refl
 with_number BadEntry = refl
 
-same_refusal : (d e : Refusal) → number d ≡ number e → d ≡ e
+pub same_refusal : (d e : Refusal) → number d ≡ number e → d ≡ e
 same_refusal d e is = sym (with_number d) ∙ ap refusal_with is ∙ with_number e
 
 told_once : {A : Type 0} (r r' : Result A Refusal) → told r ≡ told r' → r ≡ r'

@@ -27,17 +27,15 @@ use Rattle.line.specs.History.{AgreesIn, Agrees, Law, History}
 use Rattle.line.proofs.Replying.{where_ok}
 use Rattle.line.specs.Exact.{exact_runs}
 
-closed_when : (b : Bool) → not b ≡ false → b ≡ true
+pub closed_when : (b : Bool) → not b ≡ false → b ≡ true
 closed_when b is = grind (arith, is)
 
-length-stretch : (xs : List Station) (from to : ℕ) → length (stretch xs from to) ≤ length xs
+pub length-stretch : (xs : List Station) (from to : ℕ) → length (stretch xs from to) ≤ length xs
 length-stretch xs from to = omega (arith, length-take (to - (from - 1)) (drop (from - 1) xs), length-drop (from - 1) xs)
 
-module _ {E C : Type 0} (o : KindOps E C) (m n : Meaning)
-    (window : (e : E) (xs : List Station) → length xs ≤ most_stations → e ≡ joined_all o xs → o.window e ≡ n.window xs)
-    (ring : (e : E) (xs : List Station) → 1 ≤ length xs → length xs ≤ most_stations → e ≡ joined_all o xs → o.ring e ≡ n.ring xs) where
+module _ {E C : Type 0} (o : KindOps E C) where
   -- how many stations a closed line can have
-  counts : {K : Type 0} (h : Heard) (s : State (Line K) C) → Agrees o h s → h.closed ≡ true
+  pub counts : {K : Type 0} (h : Heard) (s : State (Line K) C) → Agrees o h s → h.closed ≡ true
       → (1 ≤ length h.view.standing) × (length h.view.standing ≤ most_stations)
   counts h s agrees closed = with_it s.line agrees where
     with_it : (line : Line _) → AgreesIn o line h s → (1 ≤ length h.view.standing) × (length h.view.standing ≤ most_stations)
@@ -48,6 +46,9 @@ module _ {E C : Type 0} (o : KindOps E C) (m n : Meaning)
         let few = shape.few in
         (omega (arith, as_heard.number, some), omega (arith, as_heard.number, few))
 
+module _ {E C : Type 0} (o : KindOps E C) (m n : Meaning)
+    (window : (e : E) (xs : List Station) → length xs ≤ most_stations → e ≡ joined_all o xs → o.window e ≡ n.window xs)
+    (ring : (e : E) (xs : List Station) → 1 ≤ length xs → length xs ≤ most_stations → e ≡ joined_all o xs → o.ring e ≡ n.ring xs) where
   meant_window : (k from to : ℕ) (xs : List Station) (a : Answer E) → length xs ≤ most_stations
       → AnswerLaw o o.window m.window k from to xs a → AnswerLaw o o.window n.window k from to xs a
   meant_window k from to xs a few law = record {
@@ -81,11 +82,11 @@ module _ {E C : Type 0} (o : KindOps E C) (m n : Meaning)
   due_as h s Keep r agrees in_turn due = due
   due_as h s Back r agrees in_turn due = due
   due_as h s (Ask from to) r agrees in_turn (a, is, law) =
-      let (some, few) = counts h s agrees (closed_when h.closed in_turn) in
+      let (some, few) = counts o h s agrees (closed_when h.closed in_turn) in
       let xs = stretch h.view.standing from to in
       (a, is, meant_window (length h.view.standing) from to xs a (omega (arith, few, length-stretch h.view.standing from to)) law)
   due_as h s Ring r agrees in_turn (a, is, law) =
-      let (some, few) = counts h s agrees (closed_when h.closed in_turn) in
+      let (some, few) = counts o h s agrees (closed_when h.closed in_turn) in
       (a, is, meant_ring (length h.view.standing) 1 (length h.view.standing) h.view.standing a some few law)
 
   law_as : {K : Type 0} (k : K) (qs : List Request) (rs : List (Reply C)) (s t : State (Line K) C) → Law o m k qs rs s t → Law o n k qs rs s t

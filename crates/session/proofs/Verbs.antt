@@ -1,0 +1,56 @@
+-- A record has one verb.
+use Rattle.std.proofs.Common.{◌≡◌, ◌≢◌, ℕ, ◌+◌, true, false, cond, ◌==◌, List, length, slice_index, sym, ap, ◌∙◌, refl, arith}
+use Rattle.text.specs.declared.record.Record.{Record}
+use Rattle.text.specs.declared.words.Verb.{Verb}
+use Rattle.text.specs.declared.words.Verb.TheVariants.{Line, Add, Close, Set, Try, Keep, Back, Ask, Ring}
+use Rattle.text.specs.Adding.{column}
+use Rattle.text.specs.Columns.{verb_word}
+use Rattle.session.specs.declared.stage.Stage.{Stage}
+use Rattle.session.specs.Verbs.{begins_line, takes, sorts, IsVerbOf}
+
+-- the first two bytes tell the verbs apart
+abbrev named : ℕ → ℕ → Verb
+named a b =
+    cond (a == 108) Line
+    (cond (a == 99) Close
+    (cond (a == 115) Set
+    (cond (a == 116) Try
+    (cond (a == 107) Keep
+    (cond (a == 98) Back
+    (cond (a == 114) Ring
+    (cond (b == 100) Add Ask)))))))
+
+abbrev read_back : List ℕ → Verb
+read_back w = named (slice_index w 0) (slice_index w 1)
+
+reads_back : (v : Verb) → read_back (verb_word v) ≡ v
+reads_back Line = refl
+reads_back Add = refl
+reads_back Close = refl
+reads_back Set = refl
+reads_back Try = refl
+reads_back Keep = refl
+reads_back Back = refl
+reads_back Ask = refl
+reads_back Ring = refl
+
+pub one_word : (v w : Verb) → verb_word v ≡ verb_word w → v ≡ w
+one_word v w e = sym (reads_back v) ∙ ap read_back e ∙ reads_back w
+
+pub one_verb : (s : List ℕ) (x : Record) (v w : Verb) → IsVerbOf s x v → IsVerbOf s x w → v ≡ w
+one_verb s x v w a b = one_word v w (sym a.0 ∙ b.0)
+
+pub no_other : (s : List ℕ) (x : Record) (v : Verb) → column s x 0 ≡ verb_word v → x.count ≢ length (sorts v) + 1 → (w : Verb)
+    → IsVerbOf s x w → ⊥
+no_other s x v word other w is = other (is.1 ∙ ap (λ u. length (sorts u) + 1) (one_word w v (sym is.0 ∙ word)))
+
+pub no_line : (g : Stage) (v : Verb) → takes g Line ≡ false → takes g v ≡ true → begins_line v ≡ false
+no_line g Line none taken = absurd (grind (arith, sym none ∙ taken))
+no_line g Add none taken = refl
+no_line g Close none taken = refl
+no_line g Set none taken = refl
+no_line g Try none taken = refl
+no_line g Keep none taken = refl
+no_line g Back none taken = refl
+no_line g Ask none taken = refl
+no_line g Ring none taken = refl

@@ -1,0 +1,102 @@
+-- The records of a text answered while no line has begun.
+use Rattle.std.proofs.Common.{◌≡◌, ℕ, ◌+◌, ◌*◌, ◌<◌, ◌≤◌, List, [], ◌∷◌, ◌++◌, length, Some, None, Result, Ok, Err, sym, ap, subst, ◌∙◌, append_assoc, append-nil, arith}
+use Rattle.std.proofs.lemmas.List.{length-append}
+use Rattle.text.specs.declared.answer.Answer.{Answer}
+use Rattle.text.specs.declared.answer.Answer.TheVariants.{Done, No}
+use Rattle.text.specs.declared.fault.TextFault.{TextFault}
+use Rattle.text.specs.declared.record.Record.{Record}
+use Rattle.text.specs.declared.record.Damage.{Damage}
+use Rattle.text.specs.declared.sink.Sink.{Sink}
+use Rattle.text.specs.declared.words.KindName.{KindName}
+use Rattle.text.specs.AnswerText.{longest_answer, answer_text, IsShort, answers_text}
+use Rattle.text.specs.Faults.{refused_at}
+use Rattle.text.specs.Reading.{Outcome, next_of}
+use Rattle.text.specs.Writing.{with_text}
+use Rattle.text.proofs.Putting.{one_after_another}
+use Rattle.session.specs.declared.opening.ShippedKind.{ShippedKind}
+use Rattle.session.specs.Opening.{IsShipped, OpensAt}
+use Rattle.session.specs.Session.{Refuses, Waits, ended, refused, begun, ServesKind}
+use Rattle.session.specs.Workings.{Puts}
+use Rattle.session.proofs.Serving.{answers_join, put_none, put_more, short_more}
+
+-- the records before q have been refused
+pub record WaitedTo (s : List ℕ) (old : Sink) (q i : ℕ) (new : Sink) : Type 0 where
+  pub answers : List Answer
+  pub goes : (xs : List Answer) → Waits s q i xs → Waits s 0 1 (answers ++ xs)
+  pub written : new ≡ with_text (answers_text answers) old
+  pub short : length (answers_text answers) ≤ longest_answer * q
+  pub within : q ≤ length s
+  pub counted : i ≤ q + 1
+
+pub waited_none : (s : List ℕ) (sink : Sink) → WaitedTo s sink 0 1 sink
+waited_none s sink = record {
+  answers = [];
+  goes = λ xs rest. rest;
+  written = put_none sink;
+  short = omega arith;
+  within = omega arith;
+  counted = omega arith;
+}
+
+-- answers put before, one more, and others behind it
+goes_on : (s : List ℕ) (before : List Answer) (a : Answer) (xs : List Answer) → Waits s 0 1 (before ++ a ∷ xs)
+    → Waits s 0 1 ((before ++ a ∷ []) ++ xs)
+goes_on s before a xs = subst (Waits s 0 1) (sym (append_assoc before (a ∷ []) xs))
+
+pub waited_more : (s : List ℕ) (old : Sink) (q i r : ℕ) (mid new : Sink) (x : Result Record Damage) (f : TextFault)
+    → WaitedTo s old q i mid → Outcome s q (Some x) → (q < next_of x) × (next_of x ≤ length s) → Refuses s q x f
+    → new ≡ with_text (answer_text (No (refused_at f i q))) mid → IsShort (No (refused_at f i q)) → r ≡ next_of x
+    → WaitedTo s old r (i + 1) new
+waited_more s old q i r mid new x f before found onward refuses put short at =
+    let a = No (refused_at f i q) in
+    record {
+      answers = before.answers ++ a ∷ [];
+      goes = λ xs rest.
+          goes_on s before.answers a xs (before.goes (a ∷ xs) (refused x f found refuses (subst (λ (e : ℕ). Waits s e (i + 1) xs) at rest)));
+      written = put_more a before.answers old mid new before.written put;
+      short = omega (arith, short_more a before.answers q short before.short, onward.0, at);
+      within = omega (arith, onward.1, at);
+      counted = omega (arith, before.counted, onward.0, at);
+    }
+
+pub waited_all : (s : List ℕ) (old : Sink) (q i : ℕ) (new : Sink) → WaitedTo s old q i new → Outcome s q None → Puts (Waits s 0 1) s 0 old new
+waited_all s old q i new done over = record {
+  answers = done.answers;
+  are = subst (Waits s 0 1) (append-nil done.answers) (done.goes [] (ended over));
+  written = done.written;
+  short = omega (arith, done.short, done.within);
+}
+
+-- the record that begins a line, and the answers on that line
+pub begun_here : (s : List ℕ) (old : Sink) (q i r : ℕ) (mid put new : Sink) (x : Result Record Damage) (kind : ShippedKind)
+    → WaitedTo s old q i mid → Outcome s q (Some x) → (q < next_of x) × (next_of x ≤ length s) → OpensAt s q x (Ok kind)
+    → put ≡ with_text (answer_text (Done 0)) mid → IsShort (Done 0) → r ≡ next_of x
+    → ((c : KindName) (k m : ℕ) → IsShipped kind c k m → Puts (ServesKind c k m s r (i + 1)) s r put new)
+    → Puts (Waits s 0 1) s 0 old new
+begun_here s old q i r mid put new (Err d) kind before found onward opens is short at served = absurd opens
+begun_here s old q i r mid put new (Ok x) kind before found onward (c, says, passed, shipped) is short at served =
+    let rest = served c.kind c.k c.m shipped in
+    let a = Done 0 in
+    let front = before.answers ++ a ∷ [] in
+    record {
+      answers = front ++ rest.answers;
+      are =
+          goes_on s before.answers a rest.answers
+          (before.goes (a ∷ rest.answers) (begun x c.kind c.k c.m found says passed (subst (λ (e : ℕ). ServesKind c.kind c.k c.m s e (i + 1) rest.answers) at rest.are)));
+      written =
+          rest.written ∙ ap (with_text (answers_text rest.answers)) (put_more a before.answers old mid put before.written is)
+          ∙ one_after_another (answers_text front) (answers_text rest.answers) old
+          ∙ ap (λ t. with_text t old) (sym (answers_join front rest.answers));
+      short =
+          let first = short_more a before.answers q short before.short in
+          omega (
+            arith,
+            ap length (answers_join front rest.answers),
+            length-append (answers_text front) (answers_text rest.answers),
+            first,
+            rest.short,
+            onward.0,
+            onward.1,
+            at,
+          );
+    }
