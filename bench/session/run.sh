@@ -2,12 +2,8 @@
 # Builds the library, compiles the plain session and the benchmark, and prints the table.
 set -eu
 here=$(cd "$(dirname "$0")" && pwd)
-panel="$here/../../crates/panel"
+library=$("$here/../../c/library.sh")
 work=$(mktemp -d)
 trap 'rm -rf "$work"' EXIT
-if ! (cd "$panel" && rt lib) >"$work/log" 2>&1; then
-    cat "$work/log" >&2
-    exit 1
-fi
-"${CC:-cc}" -std=c99 -O3 "$here"/*.c "$panel/out/libpanel.a" -o "$work/bench"
+"${CC:-cc}" -std=c99 -O3 "$here"/*.c "$library" -o "$work/bench"
 "$work/bench"

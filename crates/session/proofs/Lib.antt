@@ -3,6 +3,7 @@ pub mod Verbs
 pub mod Columns
 pub mod Begun
 pub mod Turning
+pub mod PutAnswers
 pub mod Serving
 pub mod Shipped
 pub mod Waiting

@@ -1,5 +1,5 @@
 -- The records of a text answered while no line has begun.
-use Rattle.std.proofs.Common.{◌≡◌, ℕ, ◌+◌, ◌*◌, ◌<◌, ◌≤◌, List, [], ◌∷◌, ◌++◌, length, Some, None, Result, Ok, Err, sym, ap, subst, ◌∙◌, append_assoc, append-nil, arith}
+use Rattle.std.proofs.Common.{◌≡◌, ℕ, ◌+◌, ◌<◌, ◌≤◌, List, [], ◌∷◌, ◌++◌, length, Some, None, Result, Ok, Err, sym, ap, subst, ◌∙◌, append_assoc, append-nil, arith}
 use Rattle.std.proofs.lemmas.List.{length-append}
 use Rattle.text.specs.declared.answer.Answer.{Answer}
 use Rattle.text.specs.declared.answer.Answer.TheVariants.{Done, No}
@@ -8,7 +8,7 @@ use Rattle.text.specs.declared.record.Record.{Record}
 use Rattle.text.specs.declared.record.Damage.{Damage}
 use Rattle.text.specs.declared.sink.Sink.{Sink}
 use Rattle.text.specs.declared.words.KindName.{KindName}
-use Rattle.text.specs.AnswerText.{longest_answer, answer_text, IsShort, answers_text}
+use Rattle.text.specs.AnswerText.{answer_text, IsShort, answers_text}
 use Rattle.text.specs.Faults.{refused_at}
 use Rattle.text.specs.Reading.{Outcome, next_of}
 use Rattle.text.specs.Writing.{with_text}
@@ -17,26 +17,16 @@ use Rattle.session.specs.declared.opening.ShippedKind.{ShippedKind}
 use Rattle.session.specs.Opening.{IsShipped, OpensAt}
 use Rattle.session.specs.Session.{Refuses, Waits, ended, refused, begun, ServesKind}
 use Rattle.session.specs.Workings.{Puts}
-use Rattle.session.proofs.Serving.{answers_join, put_none, put_more, short_more}
+use Rattle.session.proofs.PutAnswers.{answers_join, PutTo, put_begun, put_next, put_all}
 
 -- the records before q have been refused
 pub record WaitedTo (s : List ℕ) (old : Sink) (q i : ℕ) (new : Sink) : Type 0 where
   pub answers : List Answer
   pub goes : (xs : List Answer) → Waits s q i xs → Waits s 0 1 (answers ++ xs)
-  pub written : new ≡ with_text (answers_text answers) old
-  pub short : length (answers_text answers) ≤ longest_answer * q
-  pub within : q ≤ length s
-  pub counted : i ≤ q + 1
+  pub put : PutTo s 0 q i answers old new
 
 pub waited_none : (s : List ℕ) (sink : Sink) → WaitedTo s sink 0 1 sink
-waited_none s sink = record {
-  answers = [];
-  goes = λ xs rest. rest;
-  written = put_none sink;
-  short = omega arith;
-  within = omega arith;
-  counted = omega arith;
-}
+waited_none s sink = record { answers = []; goes = λ xs rest. rest; put = put_begun s 0 1 sink (omega arith) (omega arith) }
 
 -- answers put before, one more, and others behind it
 goes_on : (s : List ℕ) (before : List Answer) (a : Answer) (xs : List Answer) → Waits s 0 1 (before ++ a ∷ xs)
@@ -52,20 +42,15 @@ waited_more s old q i r mid new x f before found onward refuses put short at =
     record {
       answers = before.answers ++ a ∷ [];
       goes = λ xs rest.
-          goes_on s before.answers a xs (before.goes (a ∷ xs) (refused x f found refuses (subst (λ (e : ℕ). Waits s e (i + 1) xs) at rest)));
-      written = put_more a before.answers old mid new before.written put;
-      short = omega (arith, short_more a before.answers q short before.short, onward.0, at);
-      within = omega (arith, onward.1, at);
-      counted = omega (arith, before.counted, onward.0, at);
+          let here = subst (λ (e : ℕ). Waits s e (i + 1) xs) at rest in
+          goes_on s before.answers a xs (before.goes (a ∷ xs) (refused x f found refuses here));
+      put = put_next s 0 q i r before.answers a old mid new x before.put onward put short at;
     }
 
-pub waited_all : (s : List ℕ) (old : Sink) (q i : ℕ) (new : Sink) → WaitedTo s old q i new → Outcome s q None → Puts (Waits s 0 1) s 0 old new
-waited_all s old q i new done over = record {
-  answers = done.answers;
-  are = subst (Waits s 0 1) (append-nil done.answers) (done.goes [] (ended over));
-  written = done.written;
-  short = omega (arith, done.short, done.within);
-}
+pub waited_all : (s : List ℕ) (old : Sink) (q i : ℕ) (new : Sink) → WaitedTo s old q i new → Outcome s q None
+    → Puts (Waits s 0 1) s 0 old new
+waited_all s old q i new done over =
+    put_all (Waits s 0 1) s 0 q i done.answers old new done.put (subst (Waits s 0 1) (append-nil done.answers) (done.goes [] (ended over)))
 
 -- the record that begins a line, and the answers on that line
 pub begun_here : (s : List ℕ) (old : Sink) (q i r : ℕ) (mid put new : Sink) (x : Result Record Damage) (kind : ShippedKind)
@@ -78,25 +63,16 @@ begun_here s old q i r mid put new (Ok x) kind before found onward (c, says, pas
     let rest = served c.kind c.k c.m shipped in
     let a = Done 0 in
     let front = before.answers ++ a ∷ [] in
+    let first = put_next s 0 q i r before.answers a old mid put (Ok x) before.put onward is short at in
+    let here = subst (λ (e : ℕ). ServesKind c.kind c.k c.m s e (i + 1) rest.answers) at rest.are in
     record {
       answers = front ++ rest.answers;
-      are =
-          goes_on s before.answers a rest.answers
-          (before.goes (a ∷ rest.answers) (begun x c.kind c.k c.m found says passed (subst (λ (e : ℕ). ServesKind c.kind c.k c.m s e (i + 1) rest.answers) at rest.are)));
+      are = goes_on s before.answers a rest.answers (before.goes (a ∷ rest.answers) (begun x c.kind c.k c.m found says passed here));
       written =
-          rest.written ∙ ap (with_text (answers_text rest.answers)) (put_more a before.answers old mid put before.written is)
+          rest.written ∙ ap (with_text (answers_text rest.answers)) first.written
           ∙ one_after_another (answers_text front) (answers_text rest.answers) old
           ∙ ap (λ t. with_text t old) (sym (answers_join front rest.answers));
       short =
-          let first = short_more a before.answers q short before.short in
-          omega (
-            arith,
-            ap length (answers_join front rest.answers),
-            length-append (answers_text front) (answers_text rest.answers),
-            first,
-            rest.short,
-            onward.0,
-            onward.1,
-            at,
-          );
+          let both = length-append (answers_text front) (answers_text rest.answers) in
+          omega (arith, ap length (answers_join front rest.answers), both, first.short, first.within, rest.short);
     }

@@ -59,7 +59,7 @@ const NO_RUNS: RunCell = RunCell {
 };
 
 // Puts an answer for each record of the text from the place on, where the record with the number is due. The nodes may hold anything.
-#[tactic(auto, using(crate::proofs::Serving::served_none, crate::proofs::Serving::served_more, crate::proofs::Serving::served_all))]
+#[tactic(auto, using(crate::proofs::Serving::served_none, crate::proofs::Serving::served_all))]
 fn serve<K: Kind>(
     kind: K,
     nodes: &mut [K::Cell],
