@@ -1,4 +1,4 @@
-// Tests of texts on examples, in a crate of their own so that the library is not proved between_quotes.
+// Tests of texts on examples, in a crate of their own so that the library is not proved twice.
 #![tactic(auto)]
 
 #[cfg(test)]
