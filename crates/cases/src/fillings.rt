@@ -5,7 +5,7 @@ use kind::weights::Weights;
 use line::lines::Filling;
 use line::values::Values;
 use refusal::Refusal;
-use semiring::modulus::Residues;
+use semiring::residues::Residues;
 use station::record::{Station, Status};
 use std::process::Abort;
 use std::test::Fail;

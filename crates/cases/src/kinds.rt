@@ -7,7 +7,7 @@ use kind::stretch::{ring_of, window_of};
 use kind::summary::RunCell;
 use kind::weights::Weights;
 use semiring::counts::Counts;
-use semiring::modulus::Residues;
+use semiring::residues::Residues;
 use station::record::{Station, Status};
 use std::test::Fail;
 

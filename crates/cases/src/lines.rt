@@ -6,7 +6,7 @@ use kind::weights::Weights;
 use line::lines::{Filling, Standing};
 use line::reply::Answer;
 use line::values::{Entry, Values};
-use matrix::plain::Matrix;
+use matrix::grid::Matrix;
 use refusal::Refusal;
 use semiring::counts::Counts;
 use station::record::{Station, Status};

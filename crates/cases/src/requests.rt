@@ -4,14 +4,14 @@ use crate::lines::{
     DOWN, JUDGED, NO_ENTRY, NO_MATRIX, NO_RUNS, NO_STATION, cell, closed, untouched,
 };
 use crate::refused::refused;
+use history::shipped::{play_runs, play_weights};
+use history::step::Line;
 use kind::Kind;
 use kind::figures::Figures;
 use kind::runs::Runs;
 use kind::weights::Weights;
-use line::lines::Line;
 use line::reply::{CellAnswer, Reply};
 use line::request::Request;
-use line::shipped::{play_runs, play_weights};
 use line::values::{Entry, Values};
 use refusal::Refusal;
 use semiring::counts::Counts;

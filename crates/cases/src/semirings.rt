@@ -3,7 +3,7 @@ use crate::refused::refused;
 use matrix::threshold::Threshold;
 use semiring::costs::Costs;
 use semiring::counts::Counts;
-use semiring::modulus::Residues;
+use semiring::residues::Residues;
 use semiring::{Semiring, product_all, sum_all};
 use std::process::Abort;
 use std::test::Fail;

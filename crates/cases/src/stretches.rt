@@ -8,7 +8,7 @@ use kind::weights::Weights;
 use semiring::Semiring;
 use semiring::costs::Costs;
 use semiring::counts::Counts;
-use semiring::modulus::Residues;
+use semiring::residues::Residues;
 use station::record::{Station, Status};
 use std::process::Abort;
 use std::test::Fail;

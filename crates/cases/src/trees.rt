@@ -6,15 +6,16 @@ use kind::Kind;
 use kind::figures::Figures;
 use kind::runs::Runs;
 use kind::stretch::window_of;
-use kind::summary::RunCell;
+use kind::summary::{RunCell, RunSummary};
 use kind::weights::Weights;
+use refusal::Refusal;
 use semiring::counts::Counts;
 use station::record::{Station, Status};
 use std::alloc::{AllocError, Global};
 use std::process::Abort;
 use std::test::Fail;
+use tree::gathered::Gathered;
 use tree::shape::Shape;
-use tree::sum::Gathered;
 use tree::tree::Tree;
 
 // What a node of runs holds: whether all are down, and the run at the front, at the end and the longest.
@@ -142,12 +143,35 @@ fn ask(
     let Figures { first, second } = Runs.window_figures(&element);
     assert_eq!(rt; (joins, (first, second)), whole);
     for (place, mark) in (1usize..).zip(marks) {
-        let Gathered { element, joins } = tree.gather(nodes, place, place)?;
+        let Gathered { element, joins } = gathered(tree, nodes, place, place)?;
         let one = u32::from(*mark == b'd');
         assert_eq!(rt; joins, 0);
         assert_eq!(rt; Runs.to_cell(&element), cell((one == 1, one, one, one)));
     }
     Ok(())
+}
+
+// The calls that these tests make more than once, so that each is proved once.
+fn filled(list: &[Station], nodes: &mut [RunCell]) -> Result<(Tree<Runs>, usize), Refusal> {
+    Tree::fill(Runs, list, nodes)
+}
+
+fn written(
+    tree: &Tree<Runs>,
+    nodes: &mut [RunCell],
+    place: usize,
+    station: &Station,
+) -> Result<usize, Refusal> {
+    tree.write(nodes, place, station)
+}
+
+fn gathered(
+    tree: &Tree<Runs>,
+    nodes: &[RunCell],
+    first: usize,
+    last: usize,
+) -> Result<Gathered<RunSummary>, Refusal> {
+    tree.gather(nodes, first, last)
 }
 
 // Filled at once, and written place by place from a line that is up.
@@ -156,7 +180,7 @@ fn nodes_of_small_lines(rt: HostRuntime) -> Result<(), Fail> {
     for (marks, fill_joins, write_joins, whole_joins, figures, cells) in ROWS {
         let mut list = line(rt.alloc(), marks)?;
         let mut nodes = [cell(GARBAGE); 20];
-        let (tree, joins) = Tree::fill(Runs, &list, &mut nodes)?;
+        let (tree, joins) = filled(&list, &mut nodes)?;
         assert_eq!(rt; joins, fill_joins);
         hold(&rt, &nodes, cells);
         ask(&rt, &tree, &nodes, marks, (whole_joins, figures))?;
@@ -164,9 +188,9 @@ fn nodes_of_small_lines(rt: HostRuntime) -> Result<(), Fail> {
         for station in list.iter_mut() {
             station.status = Status::Up;
         }
-        let (tree, _) = Tree::fill(Runs, &list, &mut nodes)?;
+        let (tree, _) = filled(&list, &mut nodes)?;
         for (place, mark) in (1usize..).zip(marks) {
-            let joins = tree.write(&mut nodes, place, &station(*mark == b'd'))?;
+            let joins = written(&tree, &mut nodes, place, &station(*mark == b'd'))?;
             assert_eq!(rt; joins, write_joins);
         }
         hold(&rt, &nodes, cells);
@@ -258,14 +282,14 @@ fn the_longest_line(rt: HostRuntime) -> Result<(), Fail> {
         .map(|place| station(place / 7 % 3 == 0))
         .collect(rt.alloc())?;
     let mut nodes = vec![in rt.alloc(); cell(GARBAGE); 8191]?;
-    let (tree, joins) = Tree::fill(Runs, &list, &mut nodes)?;
+    let (tree, joins) = filled(&list, &mut nodes)?;
     assert_eq!(rt; joins, 4095);
     answers(&rt, &tree, &nodes, &list, &WINDOWS_OF_MOST)?;
     // a run across the middle of the tree
     for (place, station) in (1usize..).zip(list.iter_mut()) {
         if (2044..=2059).contains(&place) {
             station.status = Status::Down;
-            assert_eq!(rt; tree.write(&mut nodes, place, station)?, 12);
+            assert_eq!(rt; written(&tree, &mut nodes, place, station)?, 12);
         }
     }
     answers(&rt, &tree, &nodes, &list, &WINDOWS_OF_MOST)?;
@@ -289,7 +313,7 @@ fn lines_that_are_refused(rt: HostRuntime) -> Result<(), Fail> {
     for (stations, room, number) in rows {
         let list = vec![in rt.alloc(); station(true); stations]?;
         let mut nodes = vec![in rt.alloc(); cell(GARBAGE); room]?;
-        assert_eq!(rt; refused(Tree::fill(Runs, &list, &mut nodes)), number);
+        assert_eq!(rt; refused(filled(&list, &mut nodes)), number);
         if number.is_some() {
             hold(&rt, &nodes, &[]);
         }
@@ -306,21 +330,24 @@ fn places_that_are_refused(rt: HostRuntime) -> Result<(), Fail> {
     };
     let mut nodes = [cell(GARBAGE); 15];
     for (first, last) in [(0usize, 1usize), (3, 2), (1, 6), (6, 6), (0, 0)] {
-        assert_eq!(rt; refused(tree.gather(&nodes, first, last)), Some(6));
-        assert_eq!(rt; refused(tree.gather(&nodes[..14], first, last)), Some(2));
+        assert_eq!(rt; refused(gathered(&tree, &nodes, first, last)), Some(6));
+        assert_eq!(rt;
+            refused(gathered(&tree, &nodes[..14], first, last)),
+            Some(2)
+        );
     }
     for place in [0usize, 6] {
         assert_eq!(rt;
-            refused(tree.write(&mut nodes, place, &station(true))),
+            refused(written(&tree, &mut nodes, place, &station(true))),
             Some(6)
         );
         assert_eq!(rt;
-            refused(tree.write(&mut nodes[..14], place, &station(true))),
+            refused(written(&tree, &mut nodes[..14], place, &station(true))),
             Some(2)
         );
     }
     assert_eq!(rt;
-        refused(tree.write(&mut nodes[..14], 5, &station(true))),
+        refused(written(&tree, &mut nodes[..14], 5, &station(true))),
         Some(2)
     );
     assert_eq!(rt; refused(tree.gather_all(&nodes[..14])), Some(2));
@@ -339,7 +366,7 @@ fn garbage_is_used_as_it_is(rt: HostRuntime) -> Result<(), Fail> {
     let mut nodes = [cell(GARBAGE); 20];
     nodes[8] = cell((true, 2, 2, 2));
     nodes[11] = cell((false, 1, 0, 5));
-    let Gathered { element, joins } = tree.gather(&nodes, 2, 5)?;
+    let Gathered { element, joins } = gathered(&tree, &nodes, 2, 5)?;
     assert_eq!(rt; joins, 2);
     assert_eq!(rt;
         Runs.window_figures(&element),
@@ -348,7 +375,7 @@ fn garbage_is_used_as_it_is(rt: HostRuntime) -> Result<(), Fail> {
             second: 3,
         }
     );
-    assert_eq!(rt; tree.write(&mut nodes, 1, &station(true))?, 3);
+    assert_eq!(rt; written(&tree, &mut nodes, 1, &station(true))?, 3);
     let mut expected = [GARBAGE; 12];
     expected[0] = (true, 3, 3, 3);
     expected[1] = (true, 3, 3, 3);

@@ -17,7 +17,7 @@ impl Semiring for FirstDecides {
     // A total is the code itself, and needs no bound.
     ghost code = { λ _ t. t };
 
-    ghost step = { λ _. 18446744073709551616 };
+    ghost growth = { λ _. 18446744073709551616 };
 
     ghost plain = { λ _ _. true };
 

@@ -2,7 +2,7 @@
 use examples::row::Answer;
 use kind::Kind;
 use refusal::Refusal;
-use tree::sum::Gathered;
+use tree::gathered::Gathered;
 use tree::tree::Tree;
 
 // A window's figures.

@@ -11,7 +11,7 @@ use kind::stretch::{ring_of, window_of};
 use kind::weights::Weights;
 use refusal::Refusal;
 use semiring::costs::Costs;
-use semiring::modulus::Residues;
+use semiring::residues::Residues;
 use station::record::{Station, Status};
 use std::alloc::{AllocError, Global};
 use tree::shape::Shape;

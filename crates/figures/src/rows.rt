@@ -1,6 +1,6 @@
 // The example rows: small lines whose answers are known, asked of a tree.
 ghost use Rattle.std.specs.Prelude.{◌≡◌, Ok, OnOk};
-ghost use Rattle.refusal.specs.Refusals.{told};
+ghost use Rattle.refusal.specs.Refusals.{by_number};
 ghost use Rattle.examples.specs.Rows.{defined};
 
 use crate::trouble::Trouble;
@@ -12,7 +12,7 @@ use kind::weights::Weights;
 use refusal::Refusal;
 use semiring::costs::Costs;
 use semiring::counts::Counts;
-use semiring::modulus::Residues;
+use semiring::residues::Residues;
 use station::record::{Station, Status};
 use tree::tree::Tree;
 
@@ -21,7 +21,7 @@ const ROOM: usize = 15;
 
 // Ends the program where the monitor does not give the rulebook's answer.
 fn compare(row: Row, answer: Result<Answer, Refusal>) -> Result<(), Trouble>
-    ensures { OnOk result (told answer ≡ Ok (defined row)) }
+    ensures { OnOk result (by_number answer ≡ Ok (defined row)) }
 {
     if answer? != row.answer() {
         return Err(Trouble::NotTheRulebook(row));

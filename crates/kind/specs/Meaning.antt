@@ -5,7 +5,7 @@ use Rattle.refusal.specs.Refusals.{answered}
 use Rattle.station.specs.declared.record.Station.{Station}
 use Rattle.kind.specs.declared.figures.Figures.{Figures}
 use Rattle.kind.specs.Laws.{KindOps}
-use Rattle.kind.specs.Stretch.{takes_all, joined_all, window_refusal, ring_refusal}
+use Rattle.kind.specs.Stretch.{takes_all, joined_all, stretch_refusal, stretch_ring_refusal}
 
 abbrev pub both : ℕ → ℕ → Figures
 both first second = record { first = first; second = second }
@@ -30,7 +30,7 @@ pub record Meant {E C : Type 0} (o : KindOps E C) (m : Meaning) : Type 0 where
 
 -- what the stations' figures mean, or the first refusal
 abbrev pub meant_window : {E C : Type 0} → KindOps E C → Meaning → List Station → Result Figures ℕ
-meant_window o m xs = answered (window_refusal o xs) (m.window xs)
+meant_window o m xs = answered (stretch_refusal o xs) (m.window xs)
 
 abbrev pub meant_ring : {E C : Type 0} → KindOps E C → Meaning → List Station → Result Figures ℕ
-meant_ring o m xs = answered (ring_refusal o xs) (m.ring xs)
+meant_ring o m xs = answered (stretch_ring_refusal o xs) (m.ring xs)

@@ -35,7 +35,7 @@ tells [] = grind arith
 tells (x ∷ xs) = one_more _ _ _ (tells xs)
 
 -- every list is taken
-takes_all-runs : (xs : List Station) → takes_all runs_kind xs ≡ true
+pub takes_all-runs : (xs : List Station) → takes_all runs_kind xs ≡ true
 takes_all-runs [] = refl
 takes_all-runs (x ∷ xs) = takes_all-runs xs
 

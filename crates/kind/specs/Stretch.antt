@@ -1,5 +1,5 @@
 -- The element of a stretch of stations, and when its figures are refused.
--- Words: takes_all, joined_all, window_refusal, ring_refusal.
+-- Words: takes_all, joined_all, stretch_refusal, stretch_ring_refusal.
 use Rattle.std.specs.Prelude.{ℕ, Bool, true, not, ◌&&◌, List, [], ◌∷◌, length, fold, Option, nat_lt}
 use Rattle.refusal.specs.Refusals.{first}
 use Rattle.station.specs.declared.record.Station.{Station}
@@ -14,8 +14,8 @@ takes_all o (x ∷ xs) = o.takes x && takes_all o xs
 abbrev pub joined_all : {E C : Type 0} → KindOps E C → List Station → E
 joined_all o xs = fold (λ e x. o.join e (o.single x)) o.empty xs
 
-abbrev pub window_refusal : {E C : Type 0} → KindOps E C → List Station → Option ℕ
-window_refusal o xs = first ((not (takes_all o xs), 5) ∷ [])
+abbrev pub stretch_refusal : {E C : Type 0} → KindOps E C → List Station → Option ℕ
+stretch_refusal o xs = first ((not (takes_all o xs), 5) ∷ [])
 
-abbrev pub ring_refusal : {E C : Type 0} → KindOps E C → List Station → Option ℕ
-ring_refusal o xs = first ((not (takes_all o xs), 5) ∷ (nat_lt (length xs) o.shortest, 8) ∷ [])
+abbrev pub stretch_ring_refusal : {E C : Type 0} → KindOps E C → List Station → Option ℕ
+stretch_ring_refusal o xs = first ((not (takes_all o xs), 5) ∷ (nat_lt (length xs) o.shortest, 8) ∷ [])

@@ -3,9 +3,9 @@
 use Rattle.std.specs.Prelude.{ℕ, ◌+◌, ◌*◌, ◌&&◌}
 use Rattle.semiring.specs.Algebra.{SemiringOps}
 use Rattle.station.specs.Weights.{up_weight, down_weight}
-use Rattle.matrix.specs.declared.plain.Matrix.{Matrix}
+use Rattle.matrix.specs.declared.grid.Matrix.{Matrix}
 use Rattle.matrix.specs.Chain.{station_matrix, failing_of, working_of, ring_failing_of, ring_working_of}
-use Rattle.matrix.specs.Matrix.{joined, unit_matrix, Fit}
+use Rattle.matrix.specs.Matrix.{matrix_product, unit_matrix, Fit}
 use Rattle.states.specs.States.{failing, working, ring_failing, ring_working}
 use Rattle.kind.specs.Laws.{KindOps}
 use Rattle.kind.specs.Meaning.{both, Meaning}
@@ -16,7 +16,7 @@ weights_kind S k = record {
   fit = Fit S (2 * k + 1);
   single = λ x. station_matrix S k (up_weight S x) (down_weight S x);
   empty = unit_matrix S (2 * k + 1);
-  join = joined S (2 * k + 1);
+  join = matrix_product S (2 * k + 1);
   cell = λ m. m;
   element = λ m. m;
   window = λ m. record { first = failing_of S k m; second = working_of S k m };

@@ -5,7 +5,7 @@ use Rattle.semiring.specs.Algebra.{SemiringOps, SemiringLaws, In}
 use Rattle.station.specs.declared.record.Station.{Station}
 use Rattle.station.specs.declared.record.Status.{Status}
 use Rattle.station.specs.Weights.{up_as, down_as}
-use Rattle.matrix.proofs.Laws.{Fit-unit, Fit-joined, joined_assoc, joined_unit_left, joined_unit_right, Fit-station}
+use Rattle.matrix.proofs.Laws.{Fit-unit, Fit-matrix_product, product_assoc, product_unit_left, product_unit_right, Fit-station}
 use Rattle.states.proofs.Paths.{Weighed, chain}
 use Rattle.states.proofs.Summing.{window_sums, ring_sums}
 use Rattle.kind.specs.Laws.{KindLaws}
@@ -23,7 +23,7 @@ down_in S L t x h = grind (arith, L.zero_in)
 
 module _ (S : SemiringOps) (L : SemiringLaws S) where
   pub weights_lawful : (k : ℕ) → k ≤ 4 → KindLaws (weights_kind S k)
-  weights_lawful k high = grind (arith, up_in S L, down_in S L, Fit-station S L, Fit-unit S L, Fit-joined S L, joined_assoc S L, joined_unit_left S L, joined_unit_right S L)
+  weights_lawful k high = grind (arith, up_in S L, down_in S L, Fit-station S L, Fit-unit S L, Fit-matrix_product S L, product_assoc S L, product_unit_left S L, product_unit_right S L)
 
   weighed : (k : ℕ) (xs : List Station) → takes_all (weights_kind S k) xs ≡ true → Weighed S xs
   weighed k [] t = tt

@@ -1,6 +1,6 @@
 // The kind of runs: how many stations in a row are down.
 ghost use Rattle.std.specs.Prelude.{◌≡◌};
-ghost use Rattle.refusal.specs.Refusals.{told};
+ghost use Rattle.refusal.specs.Refusals.{by_number};
 ghost use Rattle.kind.specs.Meaning.{WindowSays, RingSays, meant_window, meant_ring};
 ghost use Rattle.kind.specs.Runs.{runs_kind, runs_meaning, WindowExactly, RingExactly, WholeRingDown, summary, goes_on, longest_of, seam, joined_runs, Joined};
 ghost use Rattle.kind.specs.Sound.{sound};
@@ -20,14 +20,14 @@ pub struct Runs;
 impl Runs {
     // The longest run of stations with status down in a stretch, and the run at its front.
     pub fn window_of(&self, stations: &[Station]) -> Result<Figures, Refusal>
-        ensures { told result ≡ meant_window runs_kind runs_meaning stations.now }
+        ensures { by_number result ≡ meant_window runs_kind runs_meaning stations.now }
     {
         window_of(self, stations)
     }
 
     // The longest run around the ring, and the run across the seam.
     pub fn ring_of(&self, stations: &[Station]) -> Result<Figures, Refusal>
-        ensures { told result ≡ meant_ring runs_kind runs_meaning stations.now }
+        ensures { by_number result ≡ meant_ring runs_kind runs_meaning stations.now }
     {
         ring_of(self, stations)
     }

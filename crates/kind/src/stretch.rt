@@ -1,9 +1,9 @@
 // The figures of a stretch of stations, by joining their elements left to right.
 ghost use Rattle.std.specs.Prelude.{◌≡◌};
 ghost use Rattle.std.specs.List.{list_all};
-ghost use Rattle.refusal.specs.Refusals.{told, answered};
+ghost use Rattle.refusal.specs.Refusals.{by_number, answered};
 ghost use Rattle.kind.specs.Meaning.{meant_window, meant_ring};
-ghost use Rattle.kind.specs.Stretch.{joined_all, window_refusal, ring_refusal};
+ghost use Rattle.kind.specs.Stretch.{joined_all, stretch_refusal, stretch_ring_refusal};
 
 use crate::Kind;
 use crate::figures::Figures;
@@ -29,7 +29,7 @@ fn join_all<K: Kind>(kind: &K, stations: &[Station]) -> K::Element
 
 // The stations joined, where the kind takes every record.
 fn join_taken<K: Kind>(kind: &K, stations: &[Station]) -> Result<K::Element, Refusal>
-    ensures { told result ≡ answered (window_refusal (K.Kind.ops kind.now) stations.now) (joined_all (K.Kind.ops kind.now) stations.now) }
+    ensures { by_number result ≡ answered (stretch_refusal (K.Kind.ops kind.now) stations.now) (joined_all (K.Kind.ops kind.now) stations.now) }
 {
     if !all_taken(kind, stations) {
         return Err(Refusal::NotTaken);
@@ -39,8 +39,8 @@ fn join_taken<K: Kind>(kind: &K, stations: &[Station]) -> Result<K::Element, Ref
 
 // Both figures of the stations as a window: those of their joined elements, which say what the kind's figures mean.
 pub fn window_of<K: Kind>(kind: &K, stations: &[Station]) -> Result<Figures, Refusal>
-    ensures joined { told result ≡ answered (window_refusal (K.Kind.ops kind.now) stations.now) ((K.Kind.ops kind.now).window (joined_all (K.Kind.ops kind.now) stations.now)) }
-    ensures says { told result ≡ meant_window (K.Kind.ops kind.now) (K.Kind.meaning kind.now) stations.now }
+    ensures joined { by_number result ≡ answered (stretch_refusal (K.Kind.ops kind.now) stations.now) ((K.Kind.ops kind.now).window (joined_all (K.Kind.ops kind.now) stations.now)) }
+    ensures says { by_number result ≡ meant_window (K.Kind.ops kind.now) (K.Kind.meaning kind.now) stations.now }
 {
     let element = join_taken(kind, stations)?;
     Ok(kind.window_figures(&element))
@@ -48,8 +48,8 @@ pub fn window_of<K: Kind>(kind: &K, stations: &[Station]) -> Result<Figures, Ref
 
 // Both figures of the stations as a ring. Not one function with the window's: a ring has a refusal more, and other figures.
 pub fn ring_of<K: Kind>(kind: &K, stations: &[Station]) -> Result<Figures, Refusal>
-    ensures joined { told result ≡ answered (ring_refusal (K.Kind.ops kind.now) stations.now) ((K.Kind.ops kind.now).ring (joined_all (K.Kind.ops kind.now) stations.now)) }
-    ensures says { told result ≡ meant_ring (K.Kind.ops kind.now) (K.Kind.meaning kind.now) stations.now }
+    ensures joined { by_number result ≡ answered (stretch_ring_refusal (K.Kind.ops kind.now) stations.now) ((K.Kind.ops kind.now).ring (joined_all (K.Kind.ops kind.now) stations.now)) }
+    ensures says { by_number result ≡ meant_ring (K.Kind.ops kind.now) (K.Kind.meaning kind.now) stations.now }
 {
     let element = join_taken(kind, stations)?;
     if stations.len() < kind.shortest_ring() {

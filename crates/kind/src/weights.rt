@@ -1,6 +1,6 @@
 // The kind of weights: failing and working figures over any semiring.
 ghost use Rattle.std.specs.Prelude.{◌≡◌, IfOk};
-ghost use Rattle.refusal.specs.Refusals.{told, told_as, answered};
+ghost use Rattle.refusal.specs.Refusals.{by_number, by_number_as, answered};
 ghost use Rattle.matrix.specs.Range.{threshold_refusal};
 ghost use Rattle.kind.specs.Meaning.{WindowSays, RingSays, meant_window, meant_ring};
 ghost use Rattle.kind.specs.Weights.{weights_kind, weights_meaning};
@@ -10,7 +10,7 @@ use crate::Kind;
 use crate::figures::Figures;
 use crate::stretch::{ring_of, window_of};
 use matrix::chain::Chain;
-use matrix::plain::Matrix;
+use matrix::grid::Matrix;
 use matrix::threshold::Threshold;
 use refusal::Refusal;
 use semiring::Semiring;
@@ -24,7 +24,7 @@ pub struct Weights<S> {
 impl<S: Copy> Weights<S> {
     // The weights over a semiring, for a failure of k neighbours in a row, k from 1 to 4.
     pub fn new(semiring: S, k: u64) -> Result<Weights<S>, Refusal>
-        ensures threshold { told_as (λ w. w.chain.threshold.k) result ≡ answered (threshold_refusal k) k }
+        ensures threshold { by_number_as (λ w. w.chain.threshold.k) result ≡ answered (threshold_refusal k) k }
         ensures semiring { IfOk result (λ w. w.chain.semiring ≡ semiring) }
     {
         let threshold = Threshold::try_from(k)?;
@@ -41,14 +41,14 @@ impl<S: Copy> Weights<S> {
 impl<S: Semiring> Weights<S> {
     // Both figures of a stretch: the sums of the weights of all its failing states, and of all others.
     pub fn window_of(&self, stations: &[Station]) -> Result<Figures, Refusal>
-        ensures { told result ≡ meant_window (weights_kind (S.Semiring.ops self.now.chain.semiring) self.now.chain.threshold.k) (weights_meaning (S.Semiring.ops self.now.chain.semiring) self.now.chain.threshold.k) stations.now }
+        ensures { by_number result ≡ meant_window (weights_kind (S.Semiring.ops self.now.chain.semiring) self.now.chain.threshold.k) (weights_meaning (S.Semiring.ops self.now.chain.semiring) self.now.chain.threshold.k) stations.now }
     {
         window_of(self, stations)
     }
 
     // The same around the ring.
     pub fn ring_of(&self, stations: &[Station]) -> Result<Figures, Refusal>
-        ensures { told result ≡ meant_ring (weights_kind (S.Semiring.ops self.now.chain.semiring) self.now.chain.threshold.k) (weights_meaning (S.Semiring.ops self.now.chain.semiring) self.now.chain.threshold.k) stations.now }
+        ensures { by_number result ≡ meant_ring (weights_kind (S.Semiring.ops self.now.chain.semiring) self.now.chain.threshold.k) (weights_meaning (S.Semiring.ops self.now.chain.semiring) self.now.chain.threshold.k) stations.now }
     {
         ring_of(self, stations)
     }

@@ -1,6 +1,7 @@
 -- What a standing line answers of a window and of the ring, where it agrees with what was heard.
 use Rattle.std.specs.Prelude.{◌≡◌, ℕ, zero, suc, ◌-◌, ◌≤◌, true, not, List, [], ◌∷◌, Option, None, Result, Ok, Err, IfOk, length, take, drop, refl}
 use Rattle.std.proofs.Common.{sym, ◌∙◌, ap, subst, arith}
+use Rattle.std.proofs.lemmas.List.{take_all}
 use Rattle.refusal.specs.declared.Refusal.{Refusal}
 use Rattle.station.specs.declared.record.Station.{Station}
 use Rattle.kind.specs.declared.figures.Figures.{Figures}
@@ -16,10 +17,9 @@ use Rattle.line.specs.View.{Heard, heard_on}
 use Rattle.line.specs.State.{State, rooms, count_of}
 use Rattle.line.specs.Refused.{ask_refusal, ring_refusal}
 use Rattle.line.specs.Replies.{reply_of_answer, took}
-use Rattle.line.specs.Calls.{AskCall, RingCall, gathered, sum_of}
-use Rattle.line.specs.Relations.{trial_of, Stands}
-use Rattle.line.specs.Law.{AnswerLaw, WindowAnswer, RingAnswer, Follows}
-use Rattle.line.proofs.Placing.{take_whole}
+use Rattle.line.specs.Calls.{AskCall, RingCall, gathered, joining_of}
+use Rattle.line.specs.Agreement.{trial_of, Stands}
+use Rattle.line.specs.Due.{AnswerLaw, WindowAnswer, RingAnswer, Follows}
 use Rattle.line.proofs.Replying.{ok_means, where_ok, answer_right}
 
 module _ {E C : Type 0} (o : KindOps E C) where
@@ -42,7 +42,7 @@ module _ {E C : Type 0} (o : KindOps E C) where
 
   -- the ring's stations are all of them
   stretch_whole : (xs : List Station) → stretch xs 1 (length xs) ≡ xs
-  stretch_whole xs = let n : length xs - 0 ≡ length xs = omega arith in ap (λ k. take k xs) n ∙ take_whole xs
+  stretch_whole xs = let n : length xs - 0 ≡ length xs = omega arith in ap (λ k. take k xs) n ∙ take_all (length xs) xs (omega arith)
 
   module _ {K : Type 0} (m : Meaning) (meant : Meant o m) where
     -- a window's answer, with what its figures mean
@@ -61,9 +61,7 @@ module _ {E C : Type 0} (o : KindOps E C) where
           from_empty = laws.from_empty xs at;
           figures = figures;
           meant = figures ∙ meaning (laws.from_empty xs at);
-          listed = same.listed;
           joins = same.joins;
-          few = same.few;
         }
 
     ask_due : (from to : ℕ) (s : State (Standing K) C) (h : Heard) → Stands o h s
@@ -89,7 +87,7 @@ module _ {E C : Type 0} (o : KindOps E C) where
     ring_answer s (Err e) call h agrees = tt
     ring_answer s (Ok a) call h agrees =
         let xs = h.view.standing in
-        let (none, same) = ok_means (ring_refusal o (count_of s.line) s.line.trial (rooms s)) _ (sum_of a) call.answer in
+        let (none, same) = ok_means (ring_refusal o (count_of s.line) s.line.trial (rooms s)) _ (joining_of a) call.answer in
         let laws : WindowLaws o (count_of s.line) s.nodes 1 (length xs) (gathered a) =
         subst (λ n. WindowLaws o (count_of s.line) s.nodes 1 n (gathered a)) agrees.number call.laws in
         let long = long_enough (length xs) (trial_of h) (rooms s) (sym (ring_due s h agrees) ∙ none) in
@@ -101,7 +99,7 @@ module _ {E C : Type 0} (o : KindOps E C) where
     pub ask_law : (from to : ℕ) (s : State (Standing K) C) (r : Result (Answer E) Refusal) → AskCall o from to s r → (h : Heard) → Stands o h s
         → Follows o m (rooms s) h (Ask from to) (reply_of_answer o r) (λ after. Stands o after s)
     ask_law from to s r call h agrees = record {
-      right = answer_right o m (rooms s) h (Ask from to) sum_of r _ _ call.answer (ap not agrees.closed) (ask_due from to s h agrees)
+      right = answer_right o m (rooms s) h (Ask from to) joining_of r _ _ call.answer (ap not agrees.closed) (ask_due from to s h agrees)
           (where_ok r (λ a law none. (a, refl, law)) (ask_answer from to s r call h agrees));
       after = after r;
     } where
@@ -112,7 +110,7 @@ module _ {E C : Type 0} (o : KindOps E C) where
     pub ring_law : (s : State (Standing K) C) (r : Result (Answer E) Refusal) → RingCall o s r → (h : Heard) → Stands o h s
         → Follows o m (rooms s) h Ring (reply_of_answer o r) (λ after. Stands o after s)
     ring_law s r call h agrees = record {
-      right = answer_right o m (rooms s) h Ring sum_of r _ _ call.answer (ap not agrees.closed) (ring_due s h agrees)
+      right = answer_right o m (rooms s) h Ring joining_of r _ _ call.answer (ap not agrees.closed) (ring_due s h agrees)
           (where_ok r (λ a law none. (a, refl, law)) (ring_answer s r call h agrees));
       after = after r;
     } where

@@ -1,7 +1,7 @@
 -- A filling line that agrees with what was heard: add leaves one, and close leaves one or makes a standing line of it.
 use Rattle.std.specs.Prelude.{◌≡◌, ℕ, ◌+◌, ◌-◌, ◌^◌, ◌<◌, true, List, [], ◌∷◌, ◌++◌, None, Result, Ok, Err, length, take, slice_set, refl}
 use Rattle.std.proofs.Common.{sym, ◌∙◌, ap, subst, arith, Bor}
-use Rattle.std.proofs.lemmas.List.{length-append}
+use Rattle.std.proofs.lemmas.List.{length-append, take_more_set}
 use Rattle.refusal.specs.declared.Refusal.{Refusal}
 use Rattle.station.specs.declared.record.Station.{Station}
 use Rattle.kind.specs.Laws.{KindOps}
@@ -20,9 +20,8 @@ use Rattle.line.specs.View.{Heard, made, heard_on}
 use Rattle.line.specs.Refused.{add_refusal, close_refusal}
 use Rattle.line.specs.Replies.{reply_of, close_reply, took}
 use Rattle.line.specs.Calls.{AddCall, CloseCall}
-use Rattle.line.specs.Relations.{trial_with, TrialIs, Fills, FilledNew}
-use Rattle.line.specs.Law.{RightReply, Follows, LeftByClose}
-use Rattle.line.proofs.Placing.{take_one_more}
+use Rattle.line.specs.Agreement.{trial_with, TrialIs, Fills, FilledNew}
+use Rattle.line.specs.Due.{RightReply, Follows, LeftByClose}
 use Rattle.line.proofs.Replying.{ok_means, on_ok, plain_right}
 
 module _ {E C : Type 0} (o : KindOps E C) where
@@ -70,7 +69,7 @@ module _ {E C : Type 0} (o : KindOps E C) where
               unclosed = as_heard.unclosed;
               number = number;
               listed = ap (take line'.stations) call.list ∙ ap (λ n. take n (slice_set list line.stations x)) call.count
-                  ∙ take_one_more line.stations list x room ∙ ap (λ l. l ++ x ∷ []) as_heard.listed;
+                  ∙ take_more_set list line.stations x room ∙ ap (λ l. l ++ x ∷ []) as_heard.listed;
               taken = takes_more h.view.standing x as_heard.taken taken;
               fresh = as_heard.fresh;
               none = as_heard.none;

@@ -1,7 +1,7 @@
 -- A standing line that agrees with what was heard: set, try, keep and back leave one, and reply what is due.
 use Rattle.std.specs.Prelude.{◌≡◌, ℕ, ◌-◌, ◌<◌, ◌≤◌, Bool, true, false, not, ◌&&◌, List, [], ◌∷◌, Option, Some, None, Result, Ok, Err, unwrap_or, length, take, nat_le, slice_get, refl}
 use Rattle.std.proofs.Common.{sym, ◌∙◌, ap, subst, arith}
-use Rattle.std.proofs.lemmas.List.{length-set}
+use Rattle.std.proofs.lemmas.List.{length-set, take_more_set}
 use Rattle.refusal.specs.declared.Refusal.{Refusal}
 use Rattle.refusal.specs.Refusals.{first}
 use Rattle.station.specs.declared.record.Station.{Station}
@@ -11,6 +11,7 @@ use Rattle.kind.specs.Stretch.{takes_all}
 use Rattle.tree.specs.Shape.{height}
 use Rattle.tree.specs.Nodes.{StandsFor}
 use Rattle.tree.proofs.Lists.{slice_get_some}
+use Rattle.tree.specs.Refused.{no_window}
 use Rattle.line.specs.declared.rooms.Rooms.{Rooms}
 use Rattle.line.specs.declared.values.Values.{Values}
 use Rattle.line.specs.declared.values.Entry.{Entry}
@@ -19,20 +20,15 @@ use Rattle.line.specs.declared.request.Request.TheVariants.{Set, Try, Keep, Back
 use Rattle.line.specs.declared.reply.Reply.TheVariants.{Done}
 use Rattle.line.specs.View.{Heard, values_of, put, counted, heard_on}
 use Rattle.line.specs.State.{State, at, rooms, rooms_of, count_of, in_trial, entries_of, noted, undone}
-use Rattle.line.specs.Refused.{lacks_room, no_window, takes_at, any_bad, set_refusal, try_refusal, keep_refusal, back_refusal}
+use Rattle.line.specs.Refused.{lacks_room, takes_at, any_bad, set_refusal, try_refusal, keep_refusal, back_refusal}
 use Rattle.line.specs.Replies.{reply_of, took}
 use Rattle.line.specs.Calls.{SetCall, TryCall, KeepCall, BackCall, one_more, entered}
-use Rattle.line.specs.Relations.{trial_with, trial_of, Recalls, TrialIs, Stands}
-use Rattle.line.specs.Law.{Follows}
-use Rattle.line.proofs.Placing.{get_take, take_one_more, put_take}
+use Rattle.line.specs.Agreement.{trial_with, trial_of, Recalls, TrialIs, Stands}
+use Rattle.line.specs.Due.{Follows}
+use Rattle.line.proofs.Placing.{get_take, put_take}
 use Rattle.line.proofs.Recalling.{inside, length-put, length-undone, takes_take, good_take, undone_take, taken_put, recalls_more, renewed_stands, put_back_stands}
 use Rattle.line.proofs.Replying.{ok_means, plain_right}
 use Rattle.line.proofs.Filling.{any_today}
-
--- a trial that is open in what was heard
-open_entries : (t : Option (List Station)) (e : ℕ) → entries_of (trial_with t e) ≤ e
-open_entries None e = omega arith
-open_entries (Some old) e = omega arith
 
 -- a back that is not refused has an open trial
 back_open : (n : ℕ) (trial : Option ℕ) (rs : Rooms) (bad : Bool) → back_refusal n trial rs bad ≡ None → in_trial trial ≡ true
@@ -79,7 +75,7 @@ module _ {E C : Type 0} (o : KindOps E C) where
   trial_after xs (Some old) e p v x js low high is all free (room, recalls) =
       let lt : e < length js = free refl in
       let entry : Entry = record { place = p; values = values_of x } in
-      (omega (arith, length-set js e entry, lt), rw (take_one_more e js entry lt) (recalls_more o xs old (take e js) p v x low high is all recalls))
+      (omega (arith, length-set js e entry, lt), rw (take_more_set js e entry lt) (recalls_more o xs old (take e js) p v x low high is all recalls))
 
   module _ {K : Type 0} (m : Meaning) where
     set_due : (p : ℕ) (v : Values) (s : State (Standing K) C) (h : Heard) → Stands o h s

@@ -1,6 +1,7 @@
 -- Entries put back one after the other, the newest first.
 use Rattle.std.specs.Prelude.{◌≡◌, ℕ, zero, suc, ◌+◌, ◌-◌, ◌<◌, ◌≤◌, false, List, [], ◌∷◌, Some, length, drop, slice_get, slice_index_or, slice_set, refl}
 use Rattle.std.proofs.Common.{sym, ◌∙◌, ap, arith}
+use Rattle.std.proofs.lemmas.List.{drop_all}
 use Rattle.std.proofs.lemmas.Option.{slice_get-get_or}
 use Rattle.station.specs.declared.record.Station.{Station}
 use Rattle.kind.specs.Laws.{KindOps}
@@ -19,12 +20,6 @@ drop_one (y ∷ xs) zero x is = grind (arith, is)
 drop_one (y ∷ xs) (suc i) x is =
     let more : suc i + 1 ≡ suc (i + 1) = omega arith in
     drop_one xs i x is ∙ ap (λ k. x ∷ drop k (y ∷ xs)) (sym more)
-
-drop_all : {X : Type 0} (xs : List X) (i : ℕ) → length xs ≤ i → drop i xs ≡ []
-drop_all [] zero le = refl
-drop_all [] (suc i) le = refl
-drop_all (x ∷ xs) zero le = absurd (omega arith)
-drop_all (x ∷ xs) (suc i) le = drop_all xs i (omega arith)
 
 module _ {E C : Type 0} (o : KindOps E C) (n : ℕ) where
   -- nodes written for a station are renewed for it once it is in the list
@@ -57,7 +52,7 @@ module _ {E C : Type 0} (o : KindOps E C) (n : ℕ) where
 
   pub put_back_first : (es : List Entry) (xs : List Station) (old : List C) → PutBackFrom es xs old (length es) xs old
   put_back_first es xs old =
-      let none = drop_all es (length es) (omega arith) in
+      let none = drop_all (length es) es (omega arith) in
       record { list = rw none refl; nodes = rw none refl }
 
   pub put_back_next : (es : List Entry) (xs : List Station) (old : List C) (i : ℕ) (d : Entry) (ys zs : List Station) (mid new : List C)

@@ -1,16 +1,16 @@
 -- What each call answers and leaves, whatever the spaces hold.
--- Words: AddCall, close_told, CloseCall, one_more, entered, Renewed, SetCall, TryCall, KeepCall, PutBack, BackCall, gathered, sum_of,
+-- Words: AddCall, close_told, CloseCall, one_more, entered, Renewed, SetCall, TryCall, KeepCall, PutBack, BackCall, gathered, joining_of,
 -- AskCall, RingCall.
 use Rattle.std.specs.Prelude.{◌≡◌, ℕ, ◌+◌, ◌-◌, ◌^◌, List, [], ◌∷◌, Option, Some, None, Result, Ok, Err, IfOk, IfErr, OnOk, OnErr, take, length, slice_get, slice_set}
 use Rattle.refusal.specs.declared.Refusal.{Refusal}
-use Rattle.refusal.specs.Refusals.{number, told, told_as, answered}
+use Rattle.refusal.specs.Refusals.{number, by_number, by_number_as, answered}
 use Rattle.station.specs.declared.record.Station.{Station}
 use Rattle.kind.specs.Laws.{KindOps}
-use Rattle.tree.specs.declared.sum.Sum.{Sum}
-use Rattle.tree.specs.declared.sum.Gathered.{Gathered}
+use Rattle.tree.specs.declared.gathered.Joining.{Joining}
+use Rattle.tree.specs.declared.gathered.Gathered.{Gathered}
 use Rattle.tree.specs.Shape.{height, leaf, node_count}
 use Rattle.tree.specs.Nodes.{StandsFor, SameBehind, Rewritten}
-use Rattle.tree.specs.Gathered.{window_sum, as_sum, WindowLaws}
+use Rattle.tree.specs.Gathered.{window_joining, as_joining, WindowLaws}
 use Rattle.line.specs.declared.values.Values.{Values}
 use Rattle.line.specs.declared.values.Entry.{Entry}
 use Rattle.line.specs.declared.lines.Filling.{Filling}
@@ -36,21 +36,21 @@ entered None p x js = js
 entered (Some e) p None js = js
 entered (Some e) p (Some x) js = slice_set js e (record { place = p; values = values_of x })
 
--- an answer as the tree gathered it, and as a sum
+-- an answer as the tree gathered it, and as a joining
 abbrev pub gathered : {E : Type 0} → Answer E → Gathered E
 gathered a = record { element = a.element; joins = a.joins }
 
-abbrev pub sum_of : {E : Type 0} → Answer E → Sum E
-sum_of a = as_sum (gathered a)
+abbrev pub joining_of : {E : Type 0} → Answer E → Joining E
+joining_of a = as_joining (gathered a)
 
 pub record TryCall {K : Type 0} (old : Standing K) (r : Result ℕ Refusal) (new : Standing K) : Type 0 where
-  pub answer : told r ≡ answered (try_refusal old.trial) 0
+  pub answer : by_number r ≡ answered (try_refusal old.trial) 0
   pub refused : OnErr r (new ≡ old)
   pub tree : new.tree ≡ old.tree
   pub trial : OnOk r (new.trial ≡ Some 0)
 
 pub record KeepCall {K : Type 0} (old : Standing K) (r : Result ℕ Refusal) (new : Standing K) : Type 0 where
-  pub answer : told r ≡ answered (keep_refusal old.trial) (entries_of old.trial)
+  pub answer : by_number r ≡ answered (keep_refusal old.trial) (entries_of old.trial)
   pub refused : OnErr r (new ≡ old)
   pub tree : new.tree ≡ old.tree
   pub trial : OnOk r (new.trial ≡ None)
@@ -58,7 +58,7 @@ pub record KeepCall {K : Type 0} (old : Standing K) (r : Result ℕ Refusal) (ne
 module _ {E C : Type 0} (o : KindOps E C) where
   pub record AddCall {K : Type 0} (label : List ℕ) (v : Values) (old : Filling K) (xs : List Station) (r : Result ℕ Refusal)
       (new : Filling K) (ys : List Station) : Type 0 where
-    pub answer : told r ≡ answered (add_refusal o old.stations (length xs) label (made label v)) (old.stations + 1)
+    pub answer : by_number r ≡ answered (add_refusal o old.stations (length xs) label (made label v)) (old.stations + 1)
     pub refused : OnErr r ((new ≡ old) × (ys ≡ xs))
     pub kind : new.kind ≡ old.kind
     pub count : OnOk r (new.stations ≡ old.stations + 1)
@@ -79,7 +79,7 @@ module _ {E C : Type 0} (o : KindOps E C) where
   Renewed n p xs old new = (x : Station) × (slice_get xs (p - 1) ≡ Some x) × Rewritten o (leaf (height n) p) (o.single x) old new
 
   pub record SetCall {K : Type 0} (p : ℕ) (v : Values) (s : State (Standing K) C) (r : Result ℕ Refusal) (t : State (Standing K) C) : Type 0 where
-    pub answer : told r ≡ answered (set_refusal o (count_of s.line) s.line.trial s.list (rooms s) p v) (height (count_of s.line))
+    pub answer : by_number r ≡ answered (set_refusal o (count_of s.line) s.line.trial s.list (rooms s) p v) (height (count_of s.line))
     pub refused : OnErr r (t ≡ s)
     pub tree : t.line.tree ≡ s.line.tree
     pub trial : OnOk r (t.line.trial ≡ one_more s.line.trial)
@@ -94,7 +94,7 @@ module _ {E C : Type 0} (o : KindOps E C) where
   PutBack n (e ∷ es) xs old new = (mid : List C) × PutBack n es xs old mid × Renewed n e.place (undone (e ∷ es) xs) mid new
 
   pub record BackCall {K : Type 0} (s : State (Standing K) C) (r : Result ℕ Refusal) (t : State (Standing K) C) : Type 0 where
-    pub answer : told r ≡ answered (back_refusal (count_of s.line) s.line.trial (rooms s)
+    pub answer : by_number r ≡ answered (back_refusal (count_of s.line) s.line.trial (rooms s)
         (any_bad o (count_of s.line) s.list (noted s))) (entries_of s.line.trial)
     pub refused : OnErr r (t ≡ s)
     pub tree : t.line.tree ≡ s.line.tree
@@ -105,13 +105,13 @@ module _ {E C : Type 0} (o : KindOps E C) where
     pub rooms : rooms t ≡ rooms s
 
   pub record AskCall {K : Type 0} (from to : ℕ) (s : State (Standing K) C) (r : Result (Answer E) Refusal) : Type 0 where
-    pub answer : told_as sum_of r ≡ answered (ask_refusal (count_of s.line) s.line.trial (rooms s) from to)
-        (window_sum o (count_of s.line) s.nodes from to)
+    pub answer : by_number_as joining_of r ≡ answered (ask_refusal (count_of s.line) s.line.trial (rooms s) from to)
+        (window_joining o (count_of s.line) s.nodes from to)
     pub figures : IfOk r (λ a. a.figures ≡ o.window a.element)
     pub laws : IfOk r (λ a. WindowLaws o (count_of s.line) s.nodes from to (gathered a))
 
   pub record RingCall {K : Type 0} (s : State (Standing K) C) (r : Result (Answer E) Refusal) : Type 0 where
-    pub answer : told_as sum_of r ≡ answered (ring_refusal o (count_of s.line) s.line.trial (rooms s))
-        (window_sum o (count_of s.line) s.nodes 1 (count_of s.line))
+    pub answer : by_number_as joining_of r ≡ answered (ring_refusal o (count_of s.line) s.line.trial (rooms s))
+        (window_joining o (count_of s.line) s.nodes 1 (count_of s.line))
     pub figures : IfOk r (λ a. a.figures ≡ o.ring a.element)
     pub laws : IfOk r (λ a. WindowLaws o (count_of s.line) s.nodes 1 (count_of s.line) (gathered a))

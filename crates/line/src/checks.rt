@@ -1,10 +1,11 @@
 // What a standing line tests before it does anything, each test in the order of the checks.
 ghost use Rattle.std.specs.Prelude.{◌≡◌, ◌-◌, ◌<◌, ◌≤◌, true, not, Some, OnOk, false, IfOk, length, take, slice_get};
 ghost use Rattle.std.specs.List.{list_any};
-ghost use Rattle.refusal.specs.Refusals.{told, told_as, answered};
+ghost use Rattle.refusal.specs.Refusals.{by_number, by_number_as, answered};
 ghost use Rattle.tree.specs.Shape.{height, node_count};
+ghost use Rattle.tree.specs.Refused.{no_window};
 ghost use Rattle.line.specs.State.{count_of, entries_of, in_trial};
-ghost use Rattle.line.specs.Refused.{rooms_refusal, set_refusal, back_refusal, ring_refusal, no_window, cannot_put, any_bad};
+ghost use Rattle.line.specs.Refused.{rooms_refusal, set_refusal, back_refusal, ring_refusal, cannot_put, any_bad};
 
 use crate::lines::Standing;
 use crate::rooms::Rooms;
@@ -30,7 +31,7 @@ impl<K: Kind> Standing<K> {
 
     // Refuses spaces that are too short.
     pub(crate) fn check_rooms(&self, rooms: Rooms) -> Result<(), Refusal>
-        ensures answer { told result ≡ answered (rooms_refusal (count_of self.now) self.now.trial rooms) tt }
+        ensures answer { by_number result ≡ answered (rooms_refusal (count_of self.now) self.now.trial rooms) tt }
         ensures list { OnOk result (count_of self.now ≤ rooms.list) }
         ensures nodes { OnOk result (node_count (height (count_of self.now)) ≤ rooms.nodes) }
         ensures journal { OnOk result (entries_of self.now.trial ≤ rooms.journal) }
@@ -61,7 +62,7 @@ impl<K: Kind> Standing<K> {
         values: Values,
     ) -> Result<Station, Refusal>
         requires { rooms.list ≡ length list.now }
-        ensures answer { told_as (λ _. height (count_of self.now)) result
+        ensures answer { by_number_as (λ _. height (count_of self.now)) result
             ≡ answered (set_refusal (K.Kind.ops self.now.tree.kind) (count_of self.now) self.now.trial list.now rooms place values) (height (count_of self.now)) }
         ensures found { IfOk result (λ x. slice_get list.now (place - 1) ≡ Some x) }
         ensures place { OnOk result ((1 ≤ place) × (place ≤ count_of self.now)) }
@@ -105,7 +106,7 @@ impl<K: Kind> Standing<K> {
         requires journal { rooms.journal ≡ length journal.now }
         ensures answer { let n = count_of self.now in
             let bad = any_bad (K.Kind.ops self.now.tree.kind) n list.now (take (entries_of self.now.trial) journal.now) in
-            told result ≡ answered (back_refusal n self.now.trial rooms bad) (entries_of self.now.trial) }
+            by_number result ≡ answered (back_refusal n self.now.trial rooms bad) (entries_of self.now.trial) }
         ensures spaces { OnOk result ((count_of self.now ≤ rooms.list) × (node_count (height (count_of self.now)) ≤ rooms.nodes)) }
         ensures entries { IfOk result (λ e. (e ≤ rooms.journal) × (e ≡ entries_of self.now.trial)) }
         ensures good { OnOk result (any_bad (K.Kind.ops self.now.tree.kind) (count_of self.now) list.now (take (entries_of self.now.trial) journal.now) ≡ false) }
@@ -120,7 +121,7 @@ impl<K: Kind> Standing<K> {
 
     // Refuses spaces that are too short, and then too few stations for a ring.
     pub(crate) fn check_ring(&self, rooms: Rooms) -> Result<(), Refusal>
-        ensures answer { told result ≡ answered (ring_refusal (K.Kind.ops self.now.tree.kind) (count_of self.now) self.now.trial rooms) tt }
+        ensures answer { by_number result ≡ answered (ring_refusal (K.Kind.ops self.now.tree.kind) (count_of self.now) self.now.trial rooms) tt }
         ensures nodes { OnOk result (node_count (height (count_of self.now)) ≤ rooms.nodes) }
     {
         self.check_rooms(rooms)?;

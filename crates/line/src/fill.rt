@@ -1,12 +1,19 @@
-// What add and close do.
-ghost use Rattle.std.specs.Prelude.{◌≡◌, ◌-◌, ◌^◌, length, take, IfOk, OnOk, OnErr};
-ghost use Rattle.refusal.specs.Refusals.{told_as, answered};
+// A filling line's calls: new, add, close.
+ghost use Rattle.std.specs.Prelude.{◌≡◌, ◌-◌, ◌^◌, List, length, take, IfOk, OnOk, OnErr};
+ghost use Rattle.refusal.specs.Refusals.{by_number_as, answered};
+ghost use Rattle.station.specs.declared.record.Station.{Station};
 ghost use Rattle.tree.specs.Shape.{height, node_count};
 ghost use Rattle.tree.specs.Nodes.{StandsFor, SameBehind};
+ghost use Rattle.line.specs.declared.rooms.Rooms.{Rooms};
+ghost use Rattle.line.specs.View.{Heard, silence};
 ghost use Rattle.line.specs.Refused.{close_refusal};
+ghost use Rattle.line.specs.Replies.{reply_of, close_reply};
 ghost use Rattle.line.specs.Calls.{AddCall, CloseCall};
+ghost use Rattle.line.specs.Agreement.{Fills};
+ghost use Rattle.line.specs.Due.{Follows, LeftByClose};
 
 use crate::lines::{Filling, Standing};
+use crate::request::Request;
 use crate::values::Values;
 use kind::Kind;
 use refusal::Refusal;
@@ -15,6 +22,30 @@ use tree::shape::MOST_STATIONS;
 use tree::tree::Tree;
 
 impl<K: Kind> Filling<K> {
+    // A line with no station.
+    pub fn new(kind: K) -> Filling<K>
+        ensures kind { result.kind ≡ kind }
+        ensures none { result.stations ≡ 0 }
+        ensures law { (list : List Station) → Fills (K.Kind.ops kind) silence result list }
+    {
+        Filling { kind, stations: 0 }
+    }
+
+    // One station more, whose record is written behind those of the others. Answers how many they are then.
+    pub fn add(
+        &mut self,
+        list: &mut [Station],
+        label: &[u8],
+        values: Values,
+    ) -> Result<usize, Refusal>
+        ensures call { AddCall (K.Kind.ops self.old.kind) label.now values self.old list.old result self.new list.new }
+        ensures law { let o = K.Kind.ops self.old.kind in (h : Heard) (rooms : Rooms) → rooms.list ≡ length list.old → Fills o h self.old list.old
+            → Follows o (K.Kind.meaning self.old.kind) rooms h (Request.Add label.entry values) (reply_of result)
+            (λ after. Fills o after self.new list.new) }
+    {
+        self.do_add(list, label, values)
+    }
+
     // What `add` does. The record goes into the list once it has passed each test.
     pub(crate) fn do_add(
         &mut self,
@@ -40,6 +71,20 @@ impl<K: Kind> Filling<K> {
         Ok(n + 1)
     }
 
+    // Fills the nodes with the stations, and answers how many joins that took. A refused close gives the filling line back.
+    pub fn close(
+        self,
+        list: &[Station],
+        nodes: &mut [K::Cell],
+    ) -> Result<(Standing<K>, usize), (Filling<K>, Refusal)>
+        ensures call { CloseCall (K.Kind.ops self.kind) self list.now nodes.old result nodes.new }
+        ensures law { let o = K.Kind.ops self.kind in (h : Heard) (rooms : Rooms) → rooms.list ≡ length list.now
+            → rooms.nodes ≡ length nodes.old → Fills o h self list.now
+            → Follows o (K.Kind.meaning self.kind) rooms h Request.Close (close_reply result) (LeftByClose o list.now nodes.new result) }
+    {
+        self.do_close(list, nodes)
+    }
+
     // What `close` does.
     pub(crate) fn do_close(
         self,
@@ -60,7 +105,7 @@ impl<K: Kind> Filling<K> {
         list: &[Station],
         nodes: &mut [K::Cell],
     ) -> Result<(Tree<K>, usize), Refusal>
-        ensures answer { told_as (λ r. r.1) result
+        ensures answer { by_number_as (λ r. r.1) result
             ≡ answered (close_refusal self.now.stations (length list.now) (length nodes.old)) (2 ^ height self.now.stations - 1) }
         ensures tree { IfOk result (λ r. (r.0.kind ≡ self.now.kind) × (r.0.shape.stations ≡ self.now.stations)) }
         ensures refused { OnErr result (nodes.new ≡ nodes.old) }

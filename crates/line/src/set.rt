@@ -1,12 +1,15 @@
-// What set does: an entry in the journal, other values at a place, nodes renewed.
+// The call set: an entry in the journal, other values at a place, nodes renewed.
 ghost use Rattle.std.specs.Prelude.{◌≡◌, ◌-◌, ◌<◌, ◌≤◌, true, Some, Ok, length, slice_get};
 ghost use Rattle.tree.specs.Shape.{height, leaf, node_count};
 ghost use Rattle.tree.specs.Nodes.{Rewritten};
 ghost use Rattle.line.specs.View.{put};
 ghost use Rattle.line.specs.State.{at, count_of, entries_of, in_trial};
+ghost use Rattle.line.specs.Replies.{reply_of};
 ghost use Rattle.line.specs.Calls.{SetCall, Renewed, one_more, entered};
+ghost use Rattle.line.specs.Due.{GoesOn};
 
 use crate::lines::Standing;
+use crate::request::Request;
 use crate::rooms::Rooms;
 use crate::values::{Entry, Values};
 use kind::Kind;
@@ -14,6 +17,23 @@ use refusal::Refusal;
 use station::record::Station;
 
 impl<K: Kind> Standing<K> {
+    // Replaces status and codes at a place, and answers how many joins that took. In a trial it first enters what stood there.
+    pub fn set(
+        &mut self,
+        list: &mut [Station],
+        nodes: &mut [K::Cell],
+        journal: &mut [Entry],
+        place: usize,
+        values: Values,
+    ) -> Result<usize, Refusal>
+        ensures call { SetCall (K.Kind.ops self.old.tree.kind) place values
+            (at self.old list.old nodes.old journal.old) result (at self.new list.new nodes.new journal.new) }
+        ensures law { GoesOn (K.Kind.ops self.old.tree.kind) (K.Kind.meaning self.old.tree.kind) (at self.old list.old nodes.old journal.old)
+            (Request.Set place values) (reply_of result) (at self.new list.new nodes.new journal.new) }
+    {
+        self.do_set(list, nodes, journal, place, values)
+    }
+
     // What `set` does: first the entry, while the old values still stand.
     pub(crate) fn do_set(
         &mut self,

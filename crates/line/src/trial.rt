@@ -1,11 +1,16 @@
-// What try, keep and back do.
+// The calls of a trial: try, keep, back.
 ghost use Rattle.std.specs.Prelude.{◌≡◌, ◌≤◌, false, Ok, length, List};
+ghost use Rattle.station.specs.declared.record.Station.{Station};
 ghost use Rattle.tree.specs.Shape.{height, node_count};
+ghost use Rattle.line.specs.declared.values.Entry.{Entry};
 ghost use Rattle.line.specs.State.{at, count_of, undone};
 ghost use Rattle.line.specs.Refused.{any_bad};
+ghost use Rattle.line.specs.Replies.{reply_of};
 ghost use Rattle.line.specs.Calls.{TryCall, KeepCall, BackCall, PutBack};
+ghost use Rattle.line.specs.Due.{GoesOn};
 
 use crate::lines::Standing;
+use crate::request::Request;
 use crate::rooms::Rooms;
 use crate::values::Entry;
 use kind::Kind;
@@ -13,6 +18,17 @@ use refusal::Refusal;
 use station::record::Station;
 
 impl<K: Kind> Standing<K> {
+    // Opens a trial, and answers 0. The trial has no entries then, whatever the journal holds.
+    #[tactic(auto, using(crate::proofs::Keeping::try_law))]
+    pub fn open_trial(&mut self) -> Result<usize, Refusal>
+        ensures call { TryCall self.old result self.new }
+        ensures law { (list : List Station) (nodes : List K.Cell) (journal : List Entry)
+            → GoesOn (K.Kind.ops self.old.tree.kind) (K.Kind.meaning self.old.tree.kind) (at self.old list nodes journal)
+            Request.Try (reply_of result) (at self.new list nodes journal) }
+    {
+        self.do_try()
+    }
+
     // What `open_trial` does.
     pub(crate) fn do_try(&mut self) -> Result<usize, Refusal>
         ensures { TryCall self.old result self.new }
@@ -24,11 +40,37 @@ impl<K: Kind> Standing<K> {
         Ok(0)
     }
 
+    // Ends the trial, leaves the stations as they are, and answers how many entries there were.
+    #[tactic(auto, using(crate::proofs::Keeping::keep_law))]
+    pub fn keep(&mut self) -> Result<usize, Refusal>
+        ensures call { KeepCall self.old result self.new }
+        ensures law { (list : List Station) (nodes : List K.Cell) (journal : List Entry)
+            → GoesOn (K.Kind.ops self.old.tree.kind) (K.Kind.meaning self.old.tree.kind) (at self.old list nodes journal)
+            Request.Keep (reply_of result) (at self.new list nodes journal) }
+    {
+        self.do_keep()
+    }
+
     // What `keep` does.
     pub(crate) fn do_keep(&mut self) -> Result<usize, Refusal>
         ensures { KeepCall self.old result self.new }
     {
         self.trial.take().ok_or(Refusal::NoTrial)
+    }
+
+    // Puts the entries back, the newest first, ends the trial, and answers how many entries there were.
+    pub fn back(
+        &mut self,
+        list: &mut [Station],
+        nodes: &mut [K::Cell],
+        journal: &[Entry],
+    ) -> Result<usize, Refusal>
+        ensures call { BackCall (K.Kind.ops self.old.tree.kind) (at self.old list.old nodes.old journal.now) result
+            (at self.new list.new nodes.new journal.now) }
+        ensures law { GoesOn (K.Kind.ops self.old.tree.kind) (K.Kind.meaning self.old.tree.kind) (at self.old list.old nodes.old journal.now)
+            Request.Back (reply_of result) (at self.new list.new nodes.new journal.now) }
+    {
+        self.do_back(list, nodes, journal)
     }
 
     // What `back` does.

@@ -6,7 +6,7 @@ use Rattle.std.proofs.lemmas.List.{length-take, get_or-take, get_or-drop}
 use Rattle.std.proofs.lemmas.List.FromFn.{fill_by_all}
 use Rattle.semiring.specs.Algebra.{SemiringOps, SemiringLaws, sum_of, sum_over}
 use Rattle.semiring.proofs.Sums.{sum_over_more, sum_over_member}
-use Rattle.matrix.specs.declared.plain.Matrix.{Matrix}
+use Rattle.matrix.specs.declared.grid.Matrix.{Matrix}
 use Rattle.matrix.specs.Matrix.{at, row_entry}
 
 -- a turn over code l of the left row adds its product with a code of b, which is nothing where that is zero
@@ -18,8 +18,8 @@ turn S l left b q L =
     (more, λ is_zero. grind (arith, more, is_zero, L.sum_comm t S.zero member L.zero_in, L.sum-zero t member))
 
 -- l products leave room for one more of nine
-pub room : (l step : ℕ) → l < 9 → ((l + 1) * step ≤ 9 * step) × ((l + 1 + 1) * step ≡ (l + 1) * step + step)
-room l step few = (mul-le-mul_right step (omega arith), cc (add-mul (l + 1) 1 step, one-mul step))
+pub room : (l growth : ℕ) → l < 9 → ((l + 1) * growth ≤ 9 * growth) × ((l + 1 + 1) * growth ≡ (l + 1) * growth + growth)
+room l growth few = (mul-le-mul_right growth (omega arith), cc (add-mul (l + 1) 1 growth, one-mul growth))
 
 -- the sum of a stretch of a row, by its places
 pub stretch_sum : (S : SemiringOps) (xs : List ℕ) (a n : ℕ) → a + n ≤ length xs → sum_of S (take n (drop a xs)) ≡ sum_over S (λ r. get_or xs (a + r) 0) (range_with_len 0 n)

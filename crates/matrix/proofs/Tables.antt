@@ -3,7 +3,7 @@ use Rattle.std.proofs.Common.{◌≡◌, ℕ, ◌<◌, ◌≤◌, cond, ltb, Lis
 use Rattle.std.proofs.lemmas.Bool.Decides.{nat_tests}
 use Rattle.std.proofs.lemmas.List.{places, get_or-replicate}
 use Rattle.std.proofs.lemmas.List.FromFn.{get_or-map-range_with_len, length-map-range_with_len, fill_by_all}
-use Rattle.matrix.specs.declared.plain.Matrix.{Matrix}
+use Rattle.matrix.specs.declared.grid.Matrix.{Matrix}
 use Rattle.matrix.specs.Matrix.{row, at, used, table_row, table}
 
 abbrev pub of_rows : List (List ℕ) → Matrix

@@ -1,9 +1,9 @@
 -- Matrices of nine rows of nine codes, of which the first w rows and columns are used.
--- Words: row, at, used, table_row, table, row_entry, entry, joined, PlainRow, AllPlain, delta, unit_matrix, Fit.
+-- Words: row, at, used, table_row, table, row_entry, entry, matrix_product, PlainRow, AllPlain, delta, unit_matrix, Fit.
 use Rattle.std.specs.Prelude.{◌≡◌, ℕ, ◌<◌, Bool, true, false, cond, ◌&&◌, List, [], map, length, ◌==◌, nat_lt, slice_index, slice_index_or}
 use Rattle.std.specs.List.{range_with_len}
 use Rattle.semiring.specs.Algebra.{SemiringOps, In, sum_over}
-use Rattle.matrix.specs.declared.plain.Matrix.{Matrix}
+use Rattle.matrix.specs.declared.grid.Matrix.{Matrix}
 
 -- row i, and the code in its column j
 abbrev pub row : Matrix → ℕ → List ℕ
@@ -30,8 +30,8 @@ row_entry S w left b j = sum_over S (λ l. S.product (slice_index left l) (at b 
 abbrev pub entry : SemiringOps → ℕ → Matrix → Matrix → ℕ → ℕ → ℕ
 entry S w a b i j = row_entry S w (row a i) b j
 
-abbrev pub joined : SemiringOps → ℕ → Matrix → Matrix → Matrix
-joined S w a b = table w (entry S w a b)
+abbrev pub matrix_product : SemiringOps → ℕ → Matrix → Matrix → Matrix
+matrix_product S w a b = table w (entry S w a b)
 
 -- the used codes of a row pass a test, and those of a matrix
 abbrev pub PlainRow : (ℕ → Bool) → ℕ → List ℕ → Type 0

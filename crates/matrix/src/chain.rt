@@ -1,9 +1,9 @@
 // The chain of runs over a semiring: a station's matrix is its step along the chain; and the unit matrix.
 ghost use Rattle.std.specs.Prelude.{◌≡◌, ◌+◌, ◌*◌};
-ghost use Rattle.matrix.specs.Chain.{step, station_matrix};
+ghost use Rattle.matrix.specs.Chain.{station_code, station_matrix};
 ghost use Rattle.matrix.specs.Matrix.{delta, unit_matrix};
 
-use crate::plain::Matrix;
+use crate::grid::Matrix;
 use crate::threshold::Threshold;
 use semiring::Semiring;
 
@@ -16,7 +16,7 @@ pub struct Chain<S> {
 impl<S: Semiring> Chain<S> {
     // What a station's matrix has in row i and column j: its weights where it leads, zero elsewhere.
     fn station_code(&self, up: u64, down: u64, i: usize, j: usize) -> u64
-        ensures { result ≡ step (S.Semiring.ops self.now.semiring) self.now.threshold.k up down i j }
+        ensures { result ≡ station_code (S.Semiring.ops self.now.semiring) self.now.threshold.k up down i j }
     {
         if j == self.threshold.after_up(i) {
             up

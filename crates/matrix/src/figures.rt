@@ -6,7 +6,7 @@ ghost use Rattle.matrix.specs.Chain.{failing_of, working_of, ring_failing_of, ri
 ghost use Rattle.matrix.specs.Matrix.{at};
 
 use crate::chain::Chain;
-use crate::plain::Matrix;
+use crate::grid::Matrix;
 use semiring::{Semiring, sum_all};
 
 impl<S: Semiring> Chain<S> {

@@ -3,7 +3,7 @@
 
 pub mod chain;
 pub mod figures;
-pub mod plain;
+pub mod grid;
 pub mod product;
 mod stepwise;
 pub mod threshold;

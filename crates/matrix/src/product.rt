@@ -1,9 +1,9 @@
 // The product of two matrices, a row at a time, at a width that is known when it is compiled.
 ghost use Rattle.std.specs.Prelude.{◌≡◌, ℕ, ◌+◌, ◌*◌, ◌<◌, ◌≤◌, if◌then◌else◌, true, nat_lt, replicate, slice_index};
-ghost use Rattle.matrix.specs.Matrix.{at, row, row_entry, joined, PlainRow, AllPlain};
+ghost use Rattle.matrix.specs.Matrix.{at, row, row_entry, matrix_product, PlainRow, AllPlain};
 
 use crate::chain::Chain;
-use crate::plain::Matrix;
+use crate::grid::Matrix;
 use crate::stepwise::Stepwise;
 use semiring::Semiring;
 
@@ -21,9 +21,9 @@ impl<S: Semiring> Chain<S> {
         requires place { l < 9 }
         requires plain { S.Semiring.plain self.now.semiring x ≡ true }
         requires plain_row { PlainRow (S.Semiring.plain self.now.semiring) W (row b.now l) }
-        requires room { (q : ℕ) → q < W → slice_index totals.now.sums q ≤ 9 * S.Semiring.step self.now.semiring }
+        requires room { (q : ℕ) → q < W → slice_index totals.now.sums q ≤ 9 * S.Semiring.growth self.now.semiring }
         ensures within { (q : ℕ) → q < W
-            → slice_index totals.new.sums q ≤ slice_index totals.old.sums q + S.Semiring.step self.now.semiring }
+            → slice_index totals.new.sums q ≤ slice_index totals.old.sums q + S.Semiring.growth self.now.semiring }
         ensures adds { (q : ℕ) → q < W → S.Semiring.code self.now.semiring (slice_index totals.new.sums q)
             ≡ (S.Semiring.ops self.now.semiring).sum (S.Semiring.code self.now.semiring (slice_index totals.old.sums q))
             ((S.Semiring.ops self.now.semiring).product x (at b.now l q)) }
@@ -67,7 +67,7 @@ impl<S: Semiring> Chain<S> {
         requires narrow { W ≤ 9 }
         requires plain_left { AllPlain (S.Semiring.plain self.now.semiring) W a.now }
         requires plain_right { AllPlain (S.Semiring.plain self.now.semiring) W b.now }
-        ensures { out.old.rows ≡ replicate 9 (replicate 9 0) → out.new ≡ joined (S.Semiring.ops self.now.semiring) W a.now b.now }
+        ensures { out.old.rows ≡ replicate 9 (replicate 9 0) → out.new ≡ matrix_product (S.Semiring.ops self.now.semiring) W a.now b.now }
     {
         for (i, row) in out.rows[..W].iter_mut().enumerate() {
             *row = self.row_product::<W>(&a.rows[i], b);
@@ -115,7 +115,7 @@ impl<S: Semiring> Chain<S> {
     #[inline(never)]
     fn write_product<const W: usize>(&self, a: &Matrix, b: &Matrix, out: &mut Matrix)
         requires { W ≤ 9 }
-        ensures { out.old.rows ≡ replicate 9 (replicate 9 0) → out.new ≡ joined (S.Semiring.ops self.now.semiring) W a.now b.now }
+        ensures { out.old.rows ≡ replicate 9 (replicate 9 0) → out.new ≡ matrix_product (S.Semiring.ops self.now.semiring) W a.now b.now }
     {
         if self.is_plain::<W>(a) && self.is_plain::<W>(b) {
             self.write_rows::<W>(a, b, out);
@@ -127,7 +127,7 @@ impl<S: Semiring> Chain<S> {
     // The product of the used codes, left times right, with 0 in the others. Each k has a width that is known when it is compiled:
     // with one that is not, counts and costs took 1.5 to 2 times as long.
     pub fn join(&self, a: &Matrix, b: &Matrix) -> Matrix
-        ensures { result ≡ joined (S.Semiring.ops self.now.semiring) (2 * self.now.threshold.k + 1) a.now b.now }
+        ensures { result ≡ matrix_product (S.Semiring.ops self.now.semiring) (2 * self.now.threshold.k + 1) a.now b.now }
     {
         let mut product = Matrix { rows: [[0; 9]; 9] };
         match self.threshold.k {

@@ -16,7 +16,7 @@ impl<S: Semiring> Semiring for Stepwise<S> {
     ghost code = { λ _ t. t };
 
     // above every total, and above zero
-    ghost step = { λ s. (S.Semiring.ops s.semiring).zero + 18446744073709551616 };
+    ghost growth = { λ s. (S.Semiring.ops s.semiring).zero + 18446744073709551616 };
 
     ghost plain = { λ _ _. true };
 

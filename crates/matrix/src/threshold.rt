@@ -1,7 +1,7 @@
 // The number k of neighbours down in a row that makes a failure, and the chain of runs that it fixes.
 ghost use Rattle.std.specs.Prelude.{◌≡◌, ◌+◌, ◌*◌, ◌≤◌};
-ghost use Rattle.refusal.specs.Refusals.{told_as, answered};
-ghost use Rattle.matrix.specs.Chain.{up_to, down_to};
+ghost use Rattle.refusal.specs.Refusals.{by_number_as, answered};
+ghost use Rattle.matrix.specs.Chain.{after_up, after_down};
 ghost use Rattle.matrix.specs.Range.{threshold_refusal};
 
 use refusal::Refusal;
@@ -17,7 +17,7 @@ pub struct Threshold {
 impl TryFrom<u64> for Threshold {
     type Error = Refusal;
 
-    ghost try_from_gives = { λ k r. told_as (λ t. t.k) r ≡ answered (threshold_refusal k) k };
+    ghost try_from_gives = { λ k r. by_number_as (λ t. t.k) r ≡ answered (threshold_refusal k) k };
 
     fn try_from(k: u64) -> Result<Threshold, Refusal> {
         match k {
@@ -38,14 +38,14 @@ impl Threshold {
 
     // Where an up station leads to from a state.
     pub(crate) fn after_up(self, state: usize) -> usize
-        ensures { result ≡ up_to self.k state }
+        ensures { result ≡ after_up self.k state }
     {
         if state < self.k { 0 } else { self.k }
     }
 
     // Where a down station leads to from a state.
     pub(crate) fn after_down(self, state: usize) -> usize
-        ensures { result ≡ down_to self.k state }
+        ensures { result ≡ after_down self.k state }
     {
         let k = self.k;
         if state >= k {

@@ -1,12 +1,12 @@
 // The two lines that the plan is played on.
 use crate::spaces::Spaces;
 use crate::trouble::Trouble;
+use history::shipped::{play_runs, play_weights};
 use kind::summary::RunCell;
 use kind::weights::Weights;
 use line::reply::Reply;
 use line::request::Request;
-use line::shipped::{play_runs, play_weights};
-use matrix::plain::Matrix;
+use matrix::grid::Matrix;
 use semiring::costs::Costs;
 use std::alloc::Global;
 

@@ -5,7 +5,7 @@ use kind::summary::RunCell;
 use line::reply::Reply;
 use line::request::Request;
 use line::values::Values;
-use matrix::plain::Matrix;
+use matrix::grid::Matrix;
 use semiring::Semiring;
 use semiring::costs::Costs;
 use std::{fmt, io};

@@ -1,5 +1,5 @@
 -- The panel's number of each refusal, and how a contract speaks of an answer that may be one.
--- Words: number, told, told_as, first, answered.
+-- Words: number, by_number, by_number_as, first, answered.
 use Rattle.std.specs.Prelude.{ℕ, Bool, cond, List, [], ◌∷◌, Some, None, Ok, Err, Option, Result}
 use Rattle.refusal.specs.declared.Refusal.{Refusal}
 use Rattle.refusal.specs.declared.Refusal.TheVariants.{OutOfRange, SpaceTooShort, TooManyStations, BadLabel, NotTaken, OutsideLine, NoStation, RingTooShort, TrialOpen, NoTrial, JournalFull, BadEntry}
@@ -19,12 +19,12 @@ number JournalFull = 11
 number BadEntry = 12
 
 -- an answer as the panel shows it: a value by what is read off it, or a refusal's number
-abbrev pub told_as : {A B : Type 0} → (A → B) → Result A Refusal → Result B ℕ
-told_as f (Ok v) = Ok (f v)
-told_as f (Err e) = Err (number e)
+abbrev pub by_number_as : {A B : Type 0} → (A → B) → Result A Refusal → Result B ℕ
+by_number_as f (Ok v) = Ok (f v)
+by_number_as f (Err e) = Err (number e)
 
-abbrev pub told : {A : Type 0} → Result A Refusal → Result A ℕ
-told r = told_as (λ v. v) r
+abbrev pub by_number : {A : Type 0} → Result A Refusal → Result A ℕ
+by_number r = by_number_as (λ v. v) r
 
 -- the number of the first condition that holds, in the order of the checks
 abbrev pub first : List (Bool × ℕ) → Option ℕ

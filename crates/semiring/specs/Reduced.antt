@@ -20,8 +20,8 @@ module _ (member : ℕ → Bool) (reduce : ℕ → ℕ) (R : Reduction member re
   after_product : (a z : ℕ) → reduce (z * reduce a) ≡ reduce (z * a)
   after_product a z = rw (mul_comm z (reduce a), mul_comm z a) (R.before_product a z)
 
-  pub reduced_starts : (step : ℕ) → (reduce 0 ≡ 0) × (0 ≤ step)
-  reduced_starts step = (R.same 0 R.zero_in, omega arith)
+  pub reduced_starts : (growth : ℕ) → (reduce 0 ≡ 0) × (0 ≤ growth)
+  reduced_starts growth = (R.same 0 R.zero_in, omega arith)
 
   -- the reduction of a total and a product together is the sum of both reduced
   pub plus_reduced : (t x y : ℕ) → member x ≡ true → member y ≡ true

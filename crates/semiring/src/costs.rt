@@ -19,7 +19,7 @@ impl Semiring for Costs {
     ghost code = { λ _ t. min t none };
 
     // above every total: costs need no bound on one
-    ghost step = { λ _. 18446744073709551616 };
+    ghost growth = { λ _. 18446744073709551616 };
 
     // all codes: each product is tested for none anyway
     ghost plain = { λ _ _. true };

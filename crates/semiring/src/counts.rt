@@ -18,7 +18,7 @@ impl Reduce for Counts {
     ghost reduction = { λ _ n. min n 1000000000 };
 
     // the greatest product
-    ghost step = { λ _. 1000000000000000000 };
+    ghost growth = { λ _. 1000000000000000000 };
 
     ghost small = { λ _. counts_small };
 

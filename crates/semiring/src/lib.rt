@@ -6,7 +6,6 @@ ghost use Rattle.semiring.specs.Algebra.{SemiringOps, SemiringLaws, sum_of, prod
 
 pub mod costs;
 pub mod counts;
-pub mod modulus;
 pub mod reduced;
 pub mod residues;
 
@@ -41,7 +40,7 @@ pub trait Semiring: Copy {
     // for, how much a product adds to a total at most, and which codes are plain: those that need no test with each product.
     ghost code: { Self → ℕ → ℕ };
 
-    ghost step: { Self → ℕ };
+    ghost growth: { Self → ℕ };
 
     ghost plain: { Self → ℕ → Bool };
 
@@ -50,8 +49,8 @@ pub trait Semiring: Copy {
 
     // The total with the product of two plain codes, if the total is small enough for it. From zero on, nine products can be added.
     fn plus_product(&self, total: u64, x: u64, y: u64) -> u64
-        ensures within { plain self.now x ≡ true → plain self.now y ≡ true → result ≤ total + step self.now }
-        ensures adds { plain self.now x ≡ true → plain self.now y ≡ true → total ≤ 9 * step self.now
+        ensures within { plain self.now x ≡ true → plain self.now y ≡ true → result ≤ total + growth self.now }
+        ensures adds { plain self.now x ≡ true → plain self.now y ≡ true → total ≤ 9 * growth self.now
             → code self.now result ≡ (ops self.now).sum (code self.now total) ((ops self.now).product x y) };
 
     // The code that a total stands for.
@@ -60,7 +59,7 @@ pub trait Semiring: Copy {
 
     ghost lawful: { (s : Self) → SemiringLaws (ops s) };
 
-    ghost starts: { (s : Self) → (code s (ops s).zero ≡ (ops s).zero) × ((ops s).zero ≤ step s) };
+    ghost starts: { (s : Self) → (code s (ops s).zero ≡ (ops s).zero) × ((ops s).zero ≤ growth s) };
 }
 
 // The sum of the codes, from zero, left to right.

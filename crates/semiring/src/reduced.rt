@@ -18,12 +18,12 @@ pub trait Reduce: Copy {
         ensures { result ≡ reduction self.now n };
 
     // What a product of members adds to a total at most.
-    ghost step: { Self → ℕ };
+    ghost growth: { Self → ℕ };
 
     // A number with the reduction of the total and the product together, of members and where the total is small enough.
     fn add_product(&self, total: u64, x: u64, y: u64) -> u64
-        ensures within { member self.now x ≡ true → member self.now y ≡ true → result ≤ total + step self.now }
-        ensures same { member self.now x ≡ true → member self.now y ≡ true → total ≤ 9 * step self.now
+        ensures within { member self.now x ≡ true → member self.now y ≡ true → result ≤ total + growth self.now }
+        ensures same { member self.now x ≡ true → member self.now y ≡ true → total ≤ 9 * growth self.now
             → reduction self.now result ≡ reduction self.now (total + x * y) };
 
     ghost small: { (s : Self) (n : ℕ) → member s n ≡ true → n < 4294967296 };
@@ -38,11 +38,11 @@ impl<R: Reduce> Semiring for R {
 
     ghost code = { λ r. R.Reduce.reduction r };
 
-    ghost step = { λ r. R.Reduce.step r };
+    ghost growth = { λ r. R.Reduce.growth r };
 
     ghost plain = { λ r. R.Reduce.member r };
 
-    ghost starts = { λ r. reduced_starts (R.Reduce.member r) (R.Reduce.reduction r) (R.Reduce.lawful r) (R.Reduce.step r) };
+    ghost starts = { λ r. reduced_starts (R.Reduce.member r) (R.Reduce.reduction r) (R.Reduce.lawful r) (R.Reduce.growth r) };
 
     fn is_member(&self, x: u64) -> bool {
         self.is_reduced(x)

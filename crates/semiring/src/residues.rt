@@ -1,9 +1,32 @@
-// Residues by a modulus m: 0 to m - 1.
-ghost use Rattle.std.specs.Prelude.{◌%◌, nat_lt};
+// Residues by a modulus m from 2 to 2,147,483,647: 0 to m - 1.
+ghost use Rattle.std.specs.Prelude.{◌≡◌, ◌≤◌, ◌%◌, nat_lt};
+ghost use Rattle.refusal.specs.Refusals.{by_number_as, answered};
+ghost use Rattle.semiring.specs.Models.{modulus_refusal};
 ghost use Rattle.semiring.specs.ResiduesLaws.{residues_small, residues_reduction};
 
-use crate::modulus::Residues;
 use crate::reduced::Reduce;
+use refusal::Refusal;
+
+#[derive(Clone, Copy, PartialEq, Eq, Debug)]
+pub struct Residues {
+    pub(crate) modulus: u64,
+    ghost low: { 2 ≤ modulus },
+    ghost high: { modulus ≤ 2147483647 },
+}
+
+// The residues by a modulus from 2 to 2,147,483,647. The range is a pattern, as that of k: a function for both is no shorter.
+impl TryFrom<u64> for Residues {
+    type Error = Refusal;
+
+    ghost try_from_gives = { λ m r. by_number_as (λ s. s.modulus) r ≡ answered (modulus_refusal m) m };
+
+    fn try_from(modulus: u64) -> Result<Residues, Refusal> {
+        match modulus {
+            2..=2_147_483_647 => Ok(Residues { modulus }),
+            _ => Err(Refusal::OutOfRange),
+        }
+    }
+}
 
 impl Reduce for Residues {
     ghost member = { λ s n. nat_lt n s.modulus };
@@ -11,7 +34,7 @@ impl Reduce for Residues {
     ghost reduction = { λ s n. n % s.modulus };
 
     // above every total: a total is reduced before it would be too great
-    ghost step = { λ _. 18446744073709551616 };
+    ghost growth = { λ _. 18446744073709551616 };
 
     ghost small = { λ s. residues_small s.modulus s.high };
 

@@ -9,7 +9,7 @@ use Rattle.text.specs.AnswerText.{longest_answer, answer_text, IsShort, answers_
 use Rattle.text.specs.Reading.{next_of}
 use Rattle.text.specs.Writing.{with_text}
 use Rattle.text.proofs.Putting.{one_after_another}
-use Rattle.session.specs.Workings.{Puts}
+use Rattle.session.specs.Putting.{Puts}
 
 pub answers_join : (xs ys : List Answer) → answers_text (xs ++ ys) ≡ answers_text xs ++ answers_text ys
 answers_join [] ys = refl

@@ -1,5 +1,5 @@
 -- What a record asks for, or what is wrong with it, is one thing.
-use Rattle.std.proofs.Common.{◌≡◌, ℕ, ◌+◌, ◌⊎◌, true, false, List, [], ◌∷◌, length, slice_index, refl, sym, ap, subst, ◌∙◌, inl, inr, arith}
+use Rattle.std.proofs.Common.{◌≡◌, ℕ, ◌+◌, true, false, List, [], ◌∷◌, length, slice_index, refl, sym, ap, subst, ◌∙◌, inl, inr, arith}
 use Rattle.std.specs.Prelude.{⊤, cond, ◌==◌}
 use Rattle.std.proofs.lemmas.Fmt.{decimal_injective}
 use Rattle.station.specs.declared.record.Status.{Status}
@@ -9,20 +9,19 @@ use Rattle.line.specs.declared.request.Request.{Request}
 use Rattle.line.specs.declared.request.Request.TheVariants as requests
 use Rattle.line.specs.declared.values.Values.{Values}
 use Rattle.text.specs.declared.fault.RecordFault.{RecordFault}
-use Rattle.text.specs.declared.fault.RecordFault.TheVariants.{Unknown, NotANumber, NotAWord, OutOfTurn, Line}
 use Rattle.text.specs.declared.record.Record.{Record}
 use Rattle.text.specs.declared.words.KindName.{KindName}
 use Rattle.text.specs.declared.words.KindName.TheVariants as kinds
 use Rattle.text.specs.declared.words.Verb.{Verb}
 use Rattle.text.specs.declared.words.Verb.TheVariants as verbs
-use Rattle.text.specs.Adding.{column}
-use Rattle.text.specs.Columns.{Says, kind_word}
+use Rattle.text.specs.Columns.{column, Says, kind_word}
+use Rattle.text.specs.Verbs.{Sort, status_column, number_column, sorts, IsVerbOf, Good, FirstBad}
+use Rattle.text.proofs.Verbs.{one_verb}
 use Rattle.session.specs.declared.opening.LineColumns.{LineColumns}
 use Rattle.session.specs.declared.stage.Stage.{Stage}
 use Rattle.session.specs.declared.stage.Stage.TheVariants.{NoLine}
-use Rattle.session.specs.Verbs.{takes, Sort, status, number, sorts, IsVerbOf}
-use Rattle.session.specs.Calls.{Good, FirstBad, Faulty, ValuesAre, verb_of, ArgumentsAre, Asks, LineSays}
-use Rattle.session.proofs.Verbs.{one_verb}
+use Rattle.session.specs.Stages.{takes}
+use Rattle.session.specs.Asked.{WrongWith, Faulty, ValuesAre, verb_of, ArgumentsAre, Asks, LineSays}
 
 -- the first byte tells the statuses apart, and the length the kinds
 abbrev status_of : ℕ → Status
@@ -90,7 +89,7 @@ module _ (s : List ℕ) (x : Record) where
   one_bad k (t ∷ ts) f f' (inr (good, bad)) (inl (none, is)) = absurd (none good)
   one_bad k (t ∷ ts) f f' (inr (good, bad)) (inr (good', bad')) = one_bad (k + 1) ts f f' bad bad'
 
-  values_good : (v : Values) → ValuesAre s x v → AllGood 2 (status ∷ number ∷ number ∷ [])
+  values_good : (v : Values) → ValuesAre s x v → AllGood 2 (status_column ∷ number_column ∷ number_column ∷ [])
   values_good v (is, up, down) = ((v.status, is), ((v.up, up), ((v.down, down), tt)))
 
   arguments_good : (q : Request) → ArgumentsAre s x q → AllGood 1 (sorts (verb_of q))
@@ -113,52 +112,32 @@ module _ (s : List ℕ) (x : Record) where
     pub call_right : (q : Request) → Asks s x g q → AllRight (verb_of q)
     call_right q (is, taken, are) = record { is = is; taken = taken; good = arguments_good q are }
 
-    -- what a fault says of the record, whose verb this is
-    abbrev WrongWith : Verb → RecordFault → Type 0
-    WrongWith v f = ((takes g v ≡ false) × (f ≡ OutOfTurn)) ⊎ ((takes g v ≡ true) × FirstBad s x 1 (sorts v) f)
-
-    -- the same, of whatever verb, or of none
-    abbrev Wrong : RecordFault → Type 0
-    Wrong f = (((v : Verb) → IsVerbOf s x v → ⊥) × (f ≡ Unknown)) ⊎ ((v : Verb) × IsVerbOf s x v × WrongWith v f)
-
-    wrong : (f : RecordFault) → Faulty s x g f → Wrong f
-    wrong Unknown none = inl (none, refl)
-    wrong OutOfTurn (v, is, off) = inr (v, is, inl (off, refl))
-    wrong (NotANumber p) (v, is, taken, bad) = inr (v, is, inr (taken, bad))
-    wrong (NotAWord p) (v, is, taken, bad) = inr (v, is, inr (taken, bad))
-    wrong (Line r) none = absurd none
-
     -- a record has one verb, so what is wrong with it is so with each
-    with_verb : (v w : Verb) (f : RecordFault) → IsVerbOf s x v → IsVerbOf s x w → WrongWith w f → WrongWith v f
-    with_verb v w f is was bad = subst (λ u. WrongWith u f) (one_verb s x w v was is) bad
+    with_verb : (v w : Verb) (f : RecordFault) → IsVerbOf s x v → IsVerbOf s x w → WrongWith s x g w f → WrongWith s x g v f
+    with_verb v w f is was bad = subst (λ u. WrongWith s x g u f) (one_verb s x w v was is) bad
 
     not_both : (v : Verb) → takes g v ≡ false → takes g v ≡ true → ⊥
     not_both v off taken = absurd (grind (arith, sym off ∙ taken))
 
-    one_wrong_with : (v : Verb) (f f' : RecordFault) → WrongWith v f → WrongWith v f' → f ≡ f'
-    one_wrong_with v f f' (inl (off, is)) (inl (off', is')) = is ∙ sym is'
-    one_wrong_with v f f' (inl (off, is)) (inr (taken, bad)) = absurd (not_both v off taken)
-    one_wrong_with v f f' (inr (taken, bad)) (inl (off, is)) = absurd (not_both v off taken)
-    one_wrong_with v f f' (inr (taken, bad)) (inr (taken', bad')) = one_bad 1 (sorts v) f f' bad bad'
-
-    one_wrong : (f f' : RecordFault) → Wrong f → Wrong f' → f ≡ f'
-    one_wrong f f' (inl (none, is)) (inl (none', is')) = is ∙ sym is'
-    one_wrong f f' (inl (none, is)) (inr (v, found, bad)) = absurd (none v found)
-    one_wrong f f' (inr (v, found, bad)) (inl (none, is)) = absurd (none v found)
-    one_wrong f f' (inr (v, found, bad)) (inr (w, found', bad')) = one_wrong_with v f f' bad (with_verb v w f' found found' bad')
+    one_wrong : (v : Verb) (f f' : RecordFault) → WrongWith s x g v f → WrongWith s x g v f' → f ≡ f'
+    one_wrong v f f' (inl (off, is)) (inl (off', is')) = is ∙ sym is'
+    one_wrong v f f' (inl (off, is)) (inr (taken, bad)) = absurd (not_both v off taken)
+    one_wrong v f f' (inr (taken, bad)) (inl (off, is)) = absurd (not_both v off taken)
+    one_wrong v f f' (inr (taken, bad)) (inr (taken', bad')) = one_bad 1 (sorts v) f f' bad bad'
 
     pub one_fault : (f f' : RecordFault) → Faulty s x g f → Faulty s x g f' → f ≡ f'
-    one_fault f f' faulty faulty' = one_wrong f f' (wrong f faulty) (wrong f' faulty')
+    one_fault f f' (inl (is, none)) (inl (is', none')) = is ∙ sym is'
+    one_fault f f' (inl (is, none)) (inr (v, found, bad)) = absurd (none v found)
+    one_fault f f' (inr (v, found, bad)) (inl (is, none)) = absurd (none v found)
+    one_fault f f' (inr (v, found, bad)) (inr (w, found', bad')) = one_wrong v f f' bad (with_verb v w f' found found' bad')
 
-    right_not_wrong : (v : Verb) (f : RecordFault) → AllRight v → WrongWith v f → ⊥
+    right_not_wrong : (v : Verb) (f : RecordFault) → AllRight v → WrongWith s x g v f → ⊥
     right_not_wrong v f right (inl (off, is)) = not_both v off right.taken
     right_not_wrong v f right (inr (taken, bad)) = none_bad 1 (sorts v) f right.good bad
 
     pub no_fault : (v : Verb) (f : RecordFault) → AllRight v → Faulty s x g f → ⊥
-    no_fault v f right faulty = with_it (wrong f faulty) where
-      with_it : Wrong f → ⊥
-      with_it (inl (none, is)) = none v right.is
-      with_it (inr (w, found, bad)) = right_not_wrong v f right (with_verb v w f right.is found bad)
+    no_fault v f right (inl (is, none)) = none v right.is
+    no_fault v f right (inr (w, found, bad)) = right_not_wrong v f right (with_verb v w f right.is found bad)
 
   pub line_right : (c : LineColumns) → LineSays s x c.kind c.k c.m → AllRight NoLine verbs.Line
   line_right c (is, kind, k, m) = record { is = is; taken = refl; good = ((c.kind, kind), ((c.k, k), ((c.m, m), tt))) }

@@ -2,11 +2,11 @@
 use Rattle.std.proofs.Common.{◌≡◌, ℕ, ◌+◌, ◌<◌, ◌≤◌, List, [], ◌∷◌, ◌++◌, length, Some, None, Result, sym, subst, ◌∙◌, append_assoc, append-nil}
 use Rattle.kind.specs.Laws.{KindOps}
 use Rattle.kind.specs.Meaning.{Meaning}
-use Rattle.line.specs.declared.lines.Line.{Line}
+use Rattle.history.specs.declared.step.Line.{Line}
 use Rattle.line.specs.View.{Heard, silence}
 use Rattle.line.specs.State.{State, at, rooms}
-use Rattle.line.specs.Steps.{kind_of}
-use Rattle.line.specs.History.{Agrees}
+use Rattle.history.specs.Steps.{kind_of}
+use Rattle.history.specs.Agreement.{Agrees}
 use Rattle.text.specs.declared.answer.Answer.{Answer}
 use Rattle.text.specs.declared.fault.TextFault.{TextFault}
 use Rattle.text.specs.declared.record.Record.{Record}
@@ -15,8 +15,10 @@ use Rattle.text.specs.declared.sink.Sink.{Sink}
 use Rattle.text.specs.AnswerText.{answer_text, IsShort}
 use Rattle.text.specs.Reading.{Outcome, next_of}
 use Rattle.text.specs.Writing.{with_text}
-use Rattle.session.specs.Served.{session_rooms, answer_in, Serves, finished, more}
-use Rattle.session.specs.Workings.{SameOnLines, FoundTurn, Puts}
+use Rattle.session.specs.Served.{session_rooms, answer_in, AnswersOnLine, finished, more}
+use Rattle.history.specs.Exact.{SameOnLines}
+use Rattle.session.specs.Turns.{FoundTurn}
+use Rattle.session.specs.Putting.{Puts}
 use Rattle.session.proofs.PutAnswers.{PutTo, put_begun, put_next, put_all}
 
 module _ {K E C : Type 0} (o : KindOps E C) (m : Meaning) (k : K) (s : List ℕ) where
@@ -27,8 +29,8 @@ module _ {K E C : Type 0} (o : KindOps E C) (m : Meaning) (k : K) (s : List ℕ)
     pub rooms : rooms line ≡ session_rooms
     pub kind : kind_of line.line ≡ k
     pub answers : List Answer
-    pub goes : (m' : Meaning) → SameOnLines m m' → (xs : List Answer) → Serves o m' s q i heard xs
-        → Serves o m' s p n silence (answers ++ xs)
+    pub goes : (m' : Meaning) → SameOnLines m m' → (xs : List Answer) → AnswersOnLine o m' s q i heard xs
+        → AnswersOnLine o m' s p n silence (answers ++ xs)
     pub put : PutTo s p q i answers old new
 
   pub served_none : (p n : ℕ) (sink : Sink) (line : State (Line K) C) → Agrees o silence line → rooms line ≡ session_rooms
@@ -46,10 +48,10 @@ module _ {K E C : Type 0} (o : KindOps E C) (m : Meaning) (k : K) (s : List ℕ)
 
   -- behind the last record all have been answered
   pub served_all : (p n : ℕ) (old : Sink) (q i : ℕ) (line : State (Line K) C) (new : Sink) → ServedTo p n old q i line new → Outcome s q None
-      → Puts (λ xs. (m' : Meaning) → SameOnLines m m' → Serves o m' s p n silence xs) s p old new
+      → Puts (λ xs. (m' : Meaning) → SameOnLines m m' → AnswersOnLine o m' s p n silence xs) s p old new
   served_all p n old q i line new done over =
-      put_all (λ xs. (m' : Meaning) → SameOnLines m m' → Serves o m' s p n silence xs) s p q i done.answers old new done.put
-      (λ m' same. subst (λ l. Serves o m' s p n silence l) (append-nil done.answers) (done.goes m' same [] (finished over)))
+      put_all (λ xs. (m' : Meaning) → SameOnLines m m' → AnswersOnLine o m' s p n silence xs) s p q i done.answers old new done.put
+      (λ m' same. subst (λ l. AnswersOnLine o m' s p n silence l) (append-nil done.answers) (done.goes m' same [] (finished over)))
 
 -- one record more, by the line's own kind
 pub served_next : {K E C : Type 0} (ops : K → KindOps E C) (means : K → Meaning) (k : K) (s : List ℕ) (p n : ℕ) (old : Sink) (q i r : ℕ)
@@ -68,8 +70,9 @@ served_next ops means k s p n old q i r line next mid new x outcome a before fou
       kind = kind ∙ before.kind;
       answers = before.answers ++ a ∷ [];
       goes = λ m' same xs rest.
-          let here = subst (λ (e : ℕ). Serves (ops k) m' s e (i + 1) now.after xs) at rest in
-          let more_here = subst (λ b. Serves (ops k) m' s q i before.heard (b ∷ xs)) (sym is) (more x outcome now.after found (now.gives m' same) here) in
-          subst (λ l. Serves (ops k) m' s p n silence l) (sym (append_assoc before.answers (a ∷ []) xs)) (before.goes m' same (a ∷ xs) more_here);
+          let here = subst (λ (e : ℕ). AnswersOnLine (ops k) m' s e (i + 1) now.after xs) at rest in
+          let more_here = subst (λ b. AnswersOnLine (ops k) m' s q i before.heard (b ∷ xs)) (sym is)
+          (more x outcome now.after found (now.gives m' same) here) in
+          subst (λ l. AnswersOnLine (ops k) m' s p n silence l) (sym (append_assoc before.answers (a ∷ []) xs)) (before.goes m' same (a ∷ xs) more_here);
       put = put_next s p q i r before.answers a old mid new x before.put onward put short at;
     }

@@ -1,7 +1,9 @@
 -- The modules of this folder.
-pub mod Verbs
-pub mod Calls
+pub mod Stages
+pub mod Asked
 pub mod Served
 pub mod Session
-pub mod Workings
+pub mod Requests
+pub mod Turns
+pub mod Putting
 pub mod Opening

@@ -10,14 +10,14 @@ use Rattle.text.specs.declared.record.Damage.{Damage}
 use Rattle.text.specs.declared.words.KindName.{KindName}
 use Rattle.text.specs.declared.words.KindName.TheVariants as kinds
 use Rattle.text.specs.declared.words.Verb.TheVariants as verbs
-use Rattle.text.specs.Adding.{column}
-use Rattle.text.specs.Columns.{Says, kind_word}
+use Rattle.text.specs.Columns.{column, Says, kind_word}
+use Rattle.text.specs.Found.{AtFound}
+use Rattle.text.specs.Verbs.{sorts, FirstBad}
 use Rattle.session.specs.declared.opening.LineColumns.{LineColumns}
 use Rattle.session.specs.declared.opening.ShippedKind.{ShippedKind}
 use Rattle.session.specs.declared.opening.ShippedKind.TheVariants as shipped
-use Rattle.session.specs.Verbs.{sorts}
-use Rattle.session.specs.Calls.{FirstBad, LineSays}
-use Rattle.session.specs.Session.{line_refusal, RecordRefused, Refuses}
+use Rattle.session.specs.Asked.{LineSays}
+use Rattle.session.specs.Session.{line_refusal, RecordRefused}
 
 -- the columns of a line record, or its first bad one
 abbrev pub LineRead : List ℕ → Record → Result LineColumns RecordFault → Type 0
@@ -43,6 +43,4 @@ Opens s x (Err f) = RecordRefused s x f
 
 -- the same of what was found at p
 abbrev pub OpensAt : List ℕ → ℕ → Result Record Damage → Result ShippedKind TextFault → Type 0
-OpensAt s p (Ok x) (Ok kind) = Opens s x (Ok kind)
-OpensAt s p (Err d) (Ok kind) = ⊥
-OpensAt s p x (Err f) = Refuses s p x f
+OpensAt s = AtFound (Opens s)

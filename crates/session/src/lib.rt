@@ -2,8 +2,8 @@
 #![tactic(auto)]
 
 mod asked;
-mod call;
 mod opening;
 mod serve;
 pub mod session;
 mod stage;
+mod turn;

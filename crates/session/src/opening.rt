@@ -1,6 +1,6 @@
 // The record that begins a line, and the kind of that line.
 ghost use Rattle.std.specs.Prelude.{◌≡◌, Some};
-ghost use Rattle.refusal.specs.Refusals.{told, answered};
+ghost use Rattle.refusal.specs.Refusals.{by_number, answered};
 ghost use Rattle.text.specs.Reading.{Outcome};
 ghost use Rattle.session.specs.Session.{unused_refusal};
 ghost use Rattle.session.specs.Opening.{LineRead, KindMade, Opens, OpensAt};
@@ -11,7 +11,7 @@ use kind::weights::Weights;
 use refusal::Refusal;
 use semiring::costs::Costs;
 use semiring::counts::Counts;
-use semiring::modulus::Residues;
+use semiring::residues::Residues;
 use text::fault::{RecordFault, TextFault};
 use text::record::{Damage, Record};
 use text::words::KindName;
@@ -46,7 +46,7 @@ fn line_columns(text: &[u8], found: &Record) -> Result<LineColumns, RecordFault>
 
 // Refuses a column that says nothing of this kind, and so has to be 0.
 fn unused(column: u64) -> Result<(), Refusal>
-    ensures { told result ≡ answered (unused_refusal column) tt }
+    ensures { by_number result ≡ answered (unused_refusal column) tt }
 {
     if column != 0 {
         return Err(Refusal::OutOfRange);
@@ -92,6 +92,7 @@ fn opened(text: &[u8], found: &Record) -> Result<ShippedKind, RecordFault>
 }
 
 // The same of what was found at a place.
+#[tactic(auto, using(text::proofs::Finding::place_of_damage))]
 pub(crate) fn opened_at(
     text: &[u8],
     start: usize,
@@ -102,6 +103,6 @@ pub(crate) fn opened_at(
 {
     match found {
         Ok(record) => Ok(opened(text, &record)?),
-        Err(damage) => Err(TextFault::NotWellFormed(start + damage.offset)),
+        Err(damage) => Err(damage.fault_at(start)),
     }
 }

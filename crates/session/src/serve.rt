@@ -4,22 +4,23 @@ ghost use Rattle.kind.specs.Meaning.{Meaning};
 ghost use Rattle.kind.specs.Runs.{runs_kind};
 ghost use Rattle.kind.specs.Weights.{weights_kind, weights_meaning};
 ghost use Rattle.line.specs.View.{silence};
-ghost use Rattle.line.specs.Exact.{exact_runs};
 ghost use Rattle.text.specs.declared.words.KindName.{KindName};
 ghost use Rattle.session.specs.Opening.{IsShipped};
-ghost use Rattle.session.specs.Served.{Serves};
-ghost use Rattle.session.specs.Session.{ServesKind};
-ghost use Rattle.session.specs.Workings.{SameOnLines, Puts};
+ghost use Rattle.session.specs.Served.{session_rooms, AnswersOnLine};
+ghost use Rattle.session.specs.Session.{AnswersOnNewLine};
+ghost use Rattle.history.specs.Exact.{exact_runs, SameOnLines};
+ghost use Rattle.session.specs.Putting.{Puts};
 
-use crate::call::{answer_in, at_found};
 use crate::opening::ShippedKind;
+use crate::turn::{answer_in, at_found};
+use history::step::Line;
 use kind::Kind;
 use kind::runs::Runs;
 use kind::summary::RunCell;
 use kind::weights::Weights;
-use line::lines::{Filling, Line};
+use line::lines::Filling;
 use line::values::{Entry, Values};
-use matrix::plain::Matrix;
+use matrix::grid::Matrix;
 use semiring::Semiring;
 use station::record::{Station, Status};
 use text::record::{next_place, read_record};
@@ -68,10 +69,10 @@ fn serve<K: Kind>(
     number: usize,
     sink: &mut Sink<'_>,
 )
-    requires nodes { length nodes.old ≡ 63 }
+    requires nodes { length nodes.old ≡ session_rooms.nodes }
     requires within { start ≤ length text.now }
     requires counted { number ≤ start + 1 }
-    ensures { Puts (λ xs. (m : Meaning) → SameOnLines (K.Kind.meaning kind) m → Serves (K.Kind.ops kind) m text.now start number silence xs)
+    ensures { Puts (λ xs. (m : Meaning) → SameOnLines (K.Kind.meaning kind) m → AnswersOnLine (K.Kind.ops kind) m text.now start number silence xs)
         text.now start sink.old sink.new }
 {
     let mut list = [NO_STATION; STATIONS];
@@ -93,7 +94,7 @@ fn serve<K: Kind>(
 fn serve_runs(text: &[u8], start: usize, number: usize, sink: &mut Sink<'_>)
     requires within { start ≤ length text.now }
     requires counted { number ≤ start + 1 }
-    ensures { Puts (Serves runs_kind exact_runs text.now start number silence) text.now start sink.old sink.new }
+    ensures { Puts (AnswersOnLine runs_kind exact_runs text.now start number silence) text.now start sink.old sink.new }
 {
     let mut nodes = [NO_RUNS; NODES];
     serve(Runs, &mut nodes, text, start, number, sink);
@@ -111,7 +112,7 @@ fn serve_weights<S: Semiring>(
     requires within { start ≤ length text.now }
     requires counted { number ≤ start + 1 }
     ensures { let o = S.Semiring.ops weights.chain.semiring in let k = weights.chain.threshold.k in
-        Puts (Serves (weights_kind o k) (weights_meaning o k) text.now start number silence) text.now start sink.old sink.new }
+        Puts (AnswersOnLine (weights_kind o k) (weights_meaning o k) text.now start number silence) text.now start sink.old sink.new }
 {
     let mut nodes = [NO_MATRIX; NODES];
     serve(weights, &mut nodes, text, start, number, sink);
@@ -129,7 +130,7 @@ pub(crate) fn serve_kind(
     requires within { start ≤ length text.now }
     requires counted { number ≤ start + 1 }
     ensures { (c : KindName) (k m : ℕ) → IsShipped kind c k m
-        → Puts (ServesKind c k m text.now start number) text.now start sink.old sink.new }
+        → Puts (AnswersOnNewLine c k m text.now start number) text.now start sink.old sink.new }
 {
     match kind {
         ShippedKind::Runs => serve_runs(text, start, number, sink),

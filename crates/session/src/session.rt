@@ -1,8 +1,8 @@
 // Sessions: each record of a text answered, and the answers written where they fit.
 ghost use Rattle.std.specs.Prelude.{◌≡◌, ◌/◌, nat_le};
 ghost use Rattle.text.specs.AnswerText.{longest_answer};
-ghost use Rattle.session.specs.Session.{Waits, SessionWrites};
-ghost use Rattle.session.specs.Workings.{Puts, PutInto, WrittenInto};
+ghost use Rattle.session.specs.Session.{AnswersBeforeLine, SessionWrites};
+ghost use Rattle.session.specs.Putting.{Puts, PutInto, WrittenInto};
 
 use crate::opening::opened_at;
 use crate::serve::serve_kind;
@@ -18,7 +18,7 @@ const LONGEST_ANSWER: usize = 69;
 // Puts an answer for each record of the text: refusals, up to the record that begins a line, and then the answers on that line.
 #[tactic(auto, using(crate::proofs::Waiting::waited_none, crate::proofs::Waiting::waited_more, crate::proofs::Waiting::waited_all, crate::proofs::Waiting::begun_here))]
 fn answer_all(text: &[u8], sink: &mut Sink<'_>)
-    ensures { Puts (Waits text.now 0 1) text.now 0 sink.old sink.new }
+    ensures { Puts (AnswersBeforeLine text.now 0 1) text.now 0 sink.old sink.new }
 {
     let mut at = 0;
     let mut due = 1;
@@ -38,7 +38,7 @@ fn answer_all(text: &[u8], sink: &mut Sink<'_>)
 
 // Writes the answers into a space from its beginning, as far as there is room, and tells how long they are.
 fn answer_into(text: &[u8], out: &mut [u8]) -> usize
-    ensures { PutInto (Waits text.now 0 1) text.now out.old result out.new }
+    ensures { PutInto (AnswersBeforeLine text.now 0 1) text.now out.old result out.new }
 {
     let mut sink = Sink { out, len: 0 };
     answer_all(text, &mut sink);
@@ -56,7 +56,7 @@ fn is_ample(text_len: usize, room: usize) -> bool
 // found once, else once for their length and once more if they fit.
 #[tactic(auto, using(crate::proofs::Passes::one_pass, crate::proofs::Passes::two_passes, crate::proofs::Passes::no_room))]
 fn write_answers(text: &[u8], out: &mut [u8]) -> usize
-    ensures { WrittenInto (Waits text.now 0 1) out.old result out.new }
+    ensures { WrittenInto (AnswersBeforeLine text.now 0 1) out.old result out.new }
 {
     if is_ample(text.len(), out.len()) {
         return answer_into(text, out);

@@ -1,14 +1,14 @@
 -- Where a state of the stations leads along the chain of runs: the chain's state tells the run at the end, and whether k were down in a row.
 use Rattle.std.proofs.Common.{◌≡◌, ℕ, ◌+◌, ◌<◌, ◌≤◌, min, max, cond, eqb, ◌⊎◌, [], ◌∷◌, length, arith}
 use Rattle.std.proofs.lemmas.Bool.Decides.{nat_tests}
-use Rattle.matrix.specs.Chain.{up_to, down_to}
+use Rattle.matrix.specs.Chain.{after_up, after_down}
 use Rattle.states.specs.Runs.{State, front, rear, longest}
 use Rattle.states.proofs.Running.{longest-cons, front-longest, rear_cases, rear-longest, all_or_not}
 
 -- the chain's state after a state of the stations, from its state i on
 abbrev pub led : ℕ → ℕ → State → ℕ
 led k i [] = i
-led k i (d ∷ s) = led k (cond d (down_to k i) (up_to k i)) s
+led k i (d ∷ s) = led k (cond d (after_down k i) (after_up k i)) s
 
 -- the run at the end, and the longest run, where a stations down stand before the first
 abbrev pub last_run : ℕ → State → ℕ
@@ -21,7 +21,7 @@ pub last_run-peak : (a : ℕ) (s : State) → last_run a s ≤ peak a s
 last_run-peak a s = grind (arith, nat_tests, rear-longest s, all_or_not s)
 
 -- up and down lead apart
-pub up_not_down : (k i : ℕ) → 1 ≤ k → up_to k i ≡ down_to k i → ⊥
+pub up_not_down : (k i : ℕ) → 1 ≤ k → after_up k i ≡ after_down k i → ⊥
 up_not_down k i low same = grind (arith, nat_tests)
 
 -- once k were down in a row, the chain tells the run at the end up to k

@@ -6,9 +6,9 @@ use Rattle.std.proofs.lemmas.List.Folds.{fold_along}
 use Rattle.semiring.specs.Algebra.{SemiringOps, SemiringLaws, In, sum_over}
 use Rattle.semiring.proofs.Sums.{sum_over_below, sum_over_cong, sum_over-sum, sum_over_pick, sum_over-append, sum_over-map, sum_over_member, times_sum_over, product_member}
 use Rattle.station.specs.declared.record.Station.{Station}
-use Rattle.matrix.specs.declared.plain.Matrix.{Matrix}
-use Rattle.matrix.specs.Matrix.{at, entry, delta, joined, unit_matrix}
-use Rattle.matrix.specs.Chain.{up_to, down_to, step, station_matrix}
+use Rattle.matrix.specs.declared.grid.Matrix.{Matrix}
+use Rattle.matrix.specs.Matrix.{at, entry, delta, matrix_product, unit_matrix}
+use Rattle.matrix.specs.Chain.{after_up, after_down, station_code, station_matrix}
 use Rattle.matrix.proofs.Tables.{at-table}
 use Rattle.states.specs.Runs.{State}
 use Rattle.states.specs.States.{states, weight_of, weights_in, weight}
@@ -24,7 +24,7 @@ matrix_of S k x = station_matrix S k (weight_of S x false) (weight_of S x true)
 -- the stations' matrices, joined from the right
 abbrev pub chain : SemiringOps → ℕ → List Station → Matrix
 chain S k [] = unit_matrix S (2 * k + 1)
-chain S k (x ∷ xs) = joined S (2 * k + 1) (matrix_of S k x) (chain S k xs)
+chain S k (x ∷ xs) = matrix_product S (2 * k + 1) (matrix_of S k x) (chain S k xs)
 
 -- x where the test passes, and else zero
 abbrev pub if_so : SemiringOps → Bool → ℕ → ℕ
@@ -68,20 +68,20 @@ module _ (S : SemiringOps) (L : SemiringLaws S) where
     sum_only t c g ht = sum_over_pick S L (only t c g) (only_in t c g) (2 * k + 1) t ht (λ l hl ne. grind (arith, nat_tests)) ∙ grind (arith, nat_tests)
 
     -- an entry of a station's row, times g: where up leads, and where down leads
-    split : (u d i : ℕ) (g : ℕ → ℕ) (l : ℕ) → In S (g l) → S.product (step S k u d i l) (g l) ≡ S.sum (only (up_to k i) u g l) (only (down_to k i) d g l)
+    split : (u d i : ℕ) (g : ℕ → ℕ) (l : ℕ) → In S (g l) → S.product (station_code S k u d i l) (g l) ≡ S.sum (only (after_up k i) u g l) (only (after_down k i) d g l)
     split u d i g l hg = grind (arith, nat_tests, up_not_down k i low, L.sum_comm (S.product u (g l)) S.zero, L.sum-zero, L.zero_left (g l), product_member S L, L.zero_in)
 
     -- so the row, times g
-    row : (u d i : ℕ) (g : ℕ → ℕ) → ((l : ℕ) → In S (g l)) → i < 2 * k + 1 → sum_over S (λ l. S.product (step S k u d i l) (g l)) (range_with_len 0 (2 * k + 1)) ≡ S.sum (S.product u (g (up_to k i))) (S.product d (g (down_to k i)))
+    row : (u d i : ℕ) (g : ℕ → ℕ) → ((l : ℕ) → In S (g l)) → i < 2 * k + 1 → sum_over S (λ l. S.product (station_code S k u d i l) (g l)) (range_with_len 0 (2 * k + 1)) ≡ S.sum (S.product u (g (after_up k i))) (S.product d (g (after_down k i)))
     row u d i g hg hi =
         sum_over_cong S _ _ (range_with_len 0 (2 * k + 1)) (λ l. split u d i g l (hg l))
-        ∙ sum_over-sum S L _ _ (only_in (up_to k i) u g) (only_in (down_to k i) d g) (range_with_len 0 (2 * k + 1))
-        ∙ ap₂ S.sum (sum_only (up_to k i) u g (grind (arith, nat_tests))) (sum_only (down_to k i) d g (grind (arith, nat_tests)))
+        ∙ sum_over-sum S L _ _ (only_in (after_up k i) u g) (only_in (after_down k i) d g) (range_with_len 0 (2 * k + 1))
+        ∙ ap₂ S.sum (sum_only (after_up k i) u g (grind (arith, nat_tests))) (sum_only (after_down k i) d g (grind (arith, nat_tests)))
 
     -- a station's weight before the states behind it: the states with this station up, or with it down
-    behind : (x : Station) (xs : List Station) (d : Bool) (i j : ℕ) → Weighed S (x ∷ xs) → S.product (weight_of S x d) (sum_over S (path S k xs (cond d (down_to k i) (up_to k i)) j) (states xs)) ≡ sum_over S (path S k (x ∷ xs) i j) (map (λ s. d ∷ s) (states xs))
+    behind : (x : Station) (xs : List Station) (d : Bool) (i j : ℕ) → Weighed S (x ∷ xs) → S.product (weight_of S x d) (sum_over S (path S k xs (cond d (after_down k i) (after_up k i)) j) (states xs)) ≡ sum_over S (path S k (x ∷ xs) i j) (map (λ s. d ∷ s) (states xs))
     behind x xs d i j m =
-        times_sum_over S L _ (path_in k xs (cond d (down_to k i) (up_to k i)) j) (weight_of S x d) (m.0 d) (states xs)
+        times_sum_over S L _ (path_in k xs (cond d (after_down k i) (after_up k i)) j) (weight_of S x d) (m.0 d) (states xs)
         ∙ sum_over_cong S _ _ (states xs) (λ s. grind (arith, L.zero_right (weight_of S x d), m.0 d, weight-cons x xs d s m))
         ∙ sym (sum_over-map S (path S k (x ∷ xs) i j) (λ s. d ∷ s) (states xs))
 
@@ -90,7 +90,7 @@ module _ (S : SemiringOps) (L : SemiringLaws S) where
     paths [] m i j hi hj = grind (arith, at-table (2 * k + 1) (delta S) i j, L.sum-zero, L.one_in, L.zero_in)
     paths (x ∷ xs) m i j hi hj =
         at-table (2 * k + 1) (entry S (2 * k + 1) (matrix_of S k x) (chain S k xs)) i j (omega arith) hi hj
-        ∙ sum_over_below S _ _ (2 * k + 1) (λ l hl. ap₂ S.product (at-table (2 * k + 1) (step S k (weight_of S x false) (weight_of S x true)) i l (omega arith) hi hl) (paths xs m.1 l j hl hj))
+        ∙ sum_over_below S _ _ (2 * k + 1) (λ l hl. ap₂ S.product (at-table (2 * k + 1) (station_code S k (weight_of S x false) (weight_of S x true)) i l (omega arith) hi hl) (paths xs m.1 l j hl hj))
         ∙ row (weight_of S x false) (weight_of S x true) i (λ l. sum_over S (path S k xs l j) (states xs)) (λ l. sum_over_member S L (path S k xs l j) (states xs)) hi
         ∙ ap₂ S.sum (behind x xs false i j m) (behind x xs true i j m)
         ∙ sym (sum_over-append S L _ (path_in k (x ∷ xs) i j) (map (λ s. false ∷ s) (states xs)) (map (λ s. true ∷ s) (states xs)))

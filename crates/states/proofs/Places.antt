@@ -4,7 +4,7 @@ use native.Mathlib.Nat.{mod-eq-sub-mod}
 use Rattle.std.proofs.lemmas.Bool.Decides.{nat_tests}
 use Rattle.std.proofs.lemmas.Grind.{elements}
 use Rattle.states.specs.Runs.{State, front, greatest_below, turned}
-use Rattle.states.specs.Laws.{times_in, EachStateOnce, FailsInARow, RingFailsAround}
+use Rattle.states.specs.Places.{times_in, EachStateOnce, FailsInARow, RingFailsAround}
 use Rattle.states.proofs.Running.{below_greatest, greatest_at, front_within}
 
 -- how often, in a list of two parts, and behind one station that is up or down

@@ -1,4 +1,4 @@
 -- The modules of this folder.
-pub mod Laws
+pub mod Places
 pub mod Runs
 pub mod States

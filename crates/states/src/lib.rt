@@ -2,7 +2,7 @@
 // this crate runs.
 #![tactic(auto)]
 
-ghost use Rattle.states.specs.Laws.{EachStateOnce, FailsInARow, RingFailsAround, SeamRunOnce};
+ghost use Rattle.states.specs.Places.{EachStateOnce, FailsInARow, RingFailsAround, SeamRunOnce};
 
 // The definitions say what their words say: all states are summed over, each once; a state fails exactly where k neighbours in a
 // row are down; and the run across the seam counts each station once.

@@ -1,7 +1,7 @@
 // Labels: 0 to 24 bytes, each from 20 to 7E hexadecimal.
 ghost use Rattle.std.specs.Prelude.{◌≡◌, ◌≤◌, true, length, IfOk};
 ghost use Rattle.std.specs.List.{list_all};
-ghost use Rattle.refusal.specs.Refusals.{told, answered};
+ghost use Rattle.refusal.specs.Refusals.{by_number, answered};
 ghost use Rattle.station.specs.Labels.{printable, legal, label_refusal, padded, label_of, station_with};
 
 use crate::record::{Station, Status};
@@ -54,7 +54,7 @@ impl Station {
     // A record with the label, which is tested before anything is copied.
     #[tactic(auto, using(crate::proofs::Labelling::label_put))]
     pub fn new(label: &[u8], status: Status, up: u64, down: u64) -> Result<Station, Refusal>
-        ensures value { told result ≡ answered (label_refusal label.now) (station_with label.now status up down) }
+        ensures value { by_number result ≡ answered (label_refusal label.now) (station_with label.now status up down) }
         ensures labelled { IfOk result (λ s. label_of s.label ≡ label.now) }
     {
         if !is_legal(label) {

@@ -1,30 +1,22 @@
 -- A station list as a text has it: what each record gives, and all of them to the end; what is told of it.
--- Words: RecordGives, Gives, stations_of, answers_of, Lists, report_text.
-use Rattle.std.specs.Prelude.{◌≡◌, ℕ, ◌+◌, List, [], ◌∷◌, ◌++◌, Some, None, Result, Ok, Err}
+-- Words: Gives, stations_of, answers_of, Lists, report_text.
+use Rattle.std.specs.Prelude.{ℕ, ◌+◌, List, [], ◌∷◌, ◌++◌, Some, None, Result, Ok, Err}
 use Rattle.station.specs.declared.record.Station.{Station}
 use Rattle.text.specs.declared.answer.Answer.{Answer}
 use Rattle.text.specs.declared.answer.Answer.TheVariants.{No}
 use Rattle.text.specs.declared.fault.TextFault.{TextFault}
-use Rattle.text.specs.declared.fault.TextFault.TheVariants as of_text
 use Rattle.text.specs.declared.record.Record.{Record}
 use Rattle.text.specs.declared.record.Damage.{Damage}
 use Rattle.text.specs.Adding.{StationIs}
 use Rattle.text.specs.Faults.{refused_at}
+use Rattle.text.specs.Found.{AtFound}
 use Rattle.text.specs.AnswerText.{answers_text}
 use Rattle.text.specs.StationText.{stations_text}
 use Rattle.text.specs.Reading.{Outcome, next_of}
 
--- the record makes this station, or this is wrong with it
-abbrev pub RecordGives : List ℕ → Record → Result Station TextFault → Type 0
-RecordGives s x (Ok y) = StationIs s x (Ok y)
-RecordGives s x (Err (of_text.Record f)) = StationIs s x (Err f)
-RecordGives s x (Err (of_text.NotWellFormed k)) = ⊥
-RecordGives s x (Err of_text.TooLong) = ⊥
-
 -- what was found at the place p makes this station, or this is wrong there
 abbrev pub Gives : List ℕ → ℕ → Result Record Damage → Result Station TextFault → Type 0
-Gives s p (Ok x) o = RecordGives s x o
-Gives s p (Err d) o = o ≡ Err (of_text.NotWellFormed (p + d.offset))
+Gives s = AtFound (StationIs s)
 
 abbrev pub stations_of : Result Station TextFault → List Station
 stations_of (Ok x) = x ∷ []

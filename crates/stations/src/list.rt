@@ -1,6 +1,6 @@
 // A station list as it is read: the stations of the good records, and the answers that refuse the others.
 ghost use Rattle.std.specs.Prelude.{◌≡◌, ◌++◌, IfOk, OnOk, Some};
-ghost use Rattle.stations.specs.Lists.{RecordGives, Gives, Lists, stations_of, answers_of};
+ghost use Rattle.stations.specs.Lists.{Gives, Lists, stations_of, answers_of};
 ghost use Rattle.text.specs.Reading.{Outcome};
 
 use station::record::Station;
@@ -15,21 +15,15 @@ pub(crate) struct List {
     pub(crate) answers: Vec<Answer>,
 }
 
-// The station of a record, or what is wrong with it.
-fn station_of(text: &[u8], found: &Record) -> Result<Station, TextFault>
-    ensures { RecordGives text.now found.now result }
-{
-    Ok(found.station(text)?)
-}
-
 // The station at a place where something was found, or what is wrong there.
+#[tactic(auto, using(text::proofs::Finding::place_of_damage))]
 fn station_at(text: &[u8], at: usize, found: Result<Record, Damage>) -> Result<Station, TextFault>
     requires { Outcome text.now at (Some found) }
     ensures { Gives text.now at found result }
 {
     match found {
-        Ok(record) => station_of(text, &record),
-        Err(damage) => Err(TextFault::NotWellFormed(at + damage.offset)),
+        Ok(record) => Ok(record.station(text)?),
+        Err(damage) => Err(damage.fault_at(at)),
     }
 }
 

@@ -20,4 +20,6 @@ pub mod WrittenColumns
 pub mod Counting
 pub mod Going
 pub mod Deciding
+pub mod Finding
+pub mod Verbs
 pub mod Shortness

@@ -1,5 +1,5 @@
 -- Quotes taken off: what a field means, where what it means has no quote.
-use Rattle.std.proofs.Common.{◌≡◌, ℕ, ◌+◌, ◌%◌, ◌^◌, ◌<◌, List, [], ◌∷◌, ◌++◌, length, codes, Option, Some, None, Err, refl, ap, arith, rules}
+use Rattle.std.proofs.Common.{◌≡◌, ℕ, ◌+◌, ◌%◌, ◌^◌, ◌<◌, List, [], ◌∷◌, ◌++◌, length, Option, Some, None, refl, ap, arith, rules}
 use Rattle.std.specs.Fmt.{decimal}
 use Rattle.std.specs.List.{AllByRecursion}
 use Rattle.std.proofs.lemmas.Fmt.{decimal_by_steps}
@@ -8,11 +8,9 @@ use Rattle.station.specs.declared.record.Status.TheVariants.{Judged, Down, Up, B
 use Rattle.station.specs.Words.{status_word}
 use Rattle.text.specs.declared.words.KindName.{KindName}
 use Rattle.text.specs.declared.words.KindName.TheVariants.{Runs, Counts, Residues, Costs}
-use Rattle.text.specs.declared.fault.RecordFault.{RecordFault}
-use Rattle.text.specs.declared.fault.RecordFault.TheVariants.{Unknown}
 use Rattle.text.specs.declared.words.Verb.{Verb}
 use Rattle.text.specs.declared.words.Verb.TheVariants as verbs
-use Rattle.text.specs.Columns.{IsNumber, IsWord, IsStatus, kind_word, IsKind, verb_word, IsVerb, OrFault}
+use Rattle.text.specs.Columns.{IsNumber, IsWord, IsStatus, kind_word, IsKind, verb_word, IsVerb}
 use Rattle.text.specs.Contents.{halved, inner, content}
 use Rattle.text.specs.Grammar.{Plain}
 
@@ -87,6 +85,3 @@ kind_meant = word_meant kind_word plain_kind
 
 pub verb_meant : (r : List ℕ) (x : Option Verb) → IsVerb (inner r) x → IsVerb (content r) x
 verb_meant = word_meant verb_word plain_verb
-
-pub no_add : (v : List ℕ) (f : RecordFault) → OrFault (IsVerb v) Unknown (Err f) → v ≡ codes "add" → ⊥
-no_add v f none is = none.0 verbs.Add is

@@ -14,7 +14,8 @@ use Rattle.text.specs.declared.record.Record.{Record}
 use Rattle.text.specs.Grammar.{Quotable, doubled, IsField, plain, quoted, Piece, raws, contents, commaed, Row, Begins, Text, none, more}
 use Rattle.text.specs.Places.{record_of}
 use Rattle.text.specs.Reading.{Reads}
-use Rattle.text.specs.Adding.{column, StationIs}
+use Rattle.text.specs.Adding.{StationIs}
+use Rattle.text.specs.Columns.{column}
 use Rattle.text.specs.RoundTrip.{GivesBack, ReadsBack}
 use Rattle.text.specs.StationText.{is_mark, label_text, station_columns, station_text, stations_text}
 use Rattle.text.specs.Stored.{Stored}
@@ -91,12 +92,14 @@ station_made_back s x r h five cols =
         status = x.status;
         up = x.up;
         down = x.down;
-        says = record {
-          is_add = (ap (λ l. slice_index_or l 0 []) cols, five);
-          says_status = ap (λ l. slice_index_or l 2 []) cols;
-          says_up = (h.up_fits, ap (λ l. slice_index_or l 3 []) cols);
-          says_down = (h.down_fits, ap (λ l. slice_index_or l 4 []) cols);
-        };
+        says = (
+          (ap (λ l. slice_index_or l 0 []) cols, five),
+          (
+            ap (λ l. slice_index_or l 2 []) cols,
+            (h.up_fits, ap (λ l. slice_index_or l 3 []) cols),
+            (h.down_fits, ap (λ l. slice_index_or l 4 []) cols),
+          ),
+        );
         made = ap (λ t. answered (first ((not t, 4) ∷ [])) made) (ap legal label ∙ good);
       },
       record {

@@ -1,51 +1,27 @@
 -- What an add record says, and the station that it makes.
--- Words: column, column_place, IsAdd, AddSays, CodeFault, ColumnFault, AddColumnsAre, made_with, made_of, AddMakes, StationIs.
-use Rattle.std.specs.Prelude.{◌≡◌, ℕ, ◌⊎◌, List, codes, None, Result, Ok, Err, slice_index_or}
+-- Words: AddSays, ColumnFault, AddColumnsAre, made_with, made_of, AddMakes, StationIs.
+use Rattle.std.specs.Prelude.{◌≡◌, ℕ, ◌⊎◌, List, Result, Ok, Err}
 use Rattle.refusal.specs.declared.Refusal.{Refusal}
 use Rattle.refusal.specs.Refusals.{number, answered}
 use Rattle.station.specs.declared.record.Station.{Station}
 use Rattle.station.specs.declared.record.Status.{Status}
-use Rattle.station.specs.Words.{status_word}
 use Rattle.station.specs.Labels.{label_refusal, station_with}
 use Rattle.text.specs.declared.record.Record.{Record}
 use Rattle.text.specs.declared.add.AddColumns.{AddColumns}
 use Rattle.text.specs.declared.fault.RecordFault.{RecordFault}
-use Rattle.text.specs.declared.fault.RecordFault.TheVariants.{Unknown, NotANumber, NotAWord, OutOfTurn, Line}
-use Rattle.text.specs.Places.{nowhere, raw_at}
-use Rattle.text.specs.Contents.{content}
-use Rattle.text.specs.Columns.{Says, IsNumber, IsStatus}
+use Rattle.text.specs.declared.fault.RecordFault.TheVariants.{Unknown, Line}
+use Rattle.text.specs.declared.words.Verb.TheVariants.{Add}
+use Rattle.text.specs.Columns.{column}
 use Rattle.text.specs.LabelColumns.{held, held_bytes}
-
--- the columns count from 0, with the verb as the first; each is known by what it means
-abbrev pub column : List ℕ → Record → ℕ → List ℕ
-column s x k = content (raw_at s (slice_index_or x.fields k nowhere))
-
-abbrev pub column_place : Record → ℕ → ℕ
-column_place x k = (slice_index_or x.fields k nowhere).from
-
-abbrev pub IsAdd : List ℕ → Record → Type 0
-IsAdd s x = (column s x 0 ≡ codes "add") × (x.count ≡ 5)
+use Rattle.text.specs.Verbs.{sorts, IsVerbOf, FirstBad, SaysValues}
 
 -- the record is an add record with this status and these codes
-pub record AddSays (s : List ℕ) (x : Record) (status : Status) (up down : ℕ) : Type 0 where
-  pub is_add : IsAdd s x
-  pub says_status : column s x 2 ≡ status_word status
-  pub says_up : Says up (column s x 3)
-  pub says_down : Says down (column s x 4)
+abbrev pub AddSays : List ℕ → Record → Status → ℕ → ℕ → Type 0
+AddSays s x status up down = IsVerbOf s x Add × SaysValues s x status up down
 
--- a code is no number: the up code, or the down code behind a good one
-abbrev pub CodeFault : List ℕ → Record → ℕ → Type 0
-CodeFault s x p =
-    (IsNumber (column s x 3) None × (p ≡ column_place x 3))
-    ⊎ ((up : ℕ) × Says up (column s x 3) × IsNumber (column s x 4) None × (p ≡ column_place x 4))
-
--- what is wrong with a record before its label is looked at: it is no add record, or its first bad status or code from the left
+-- what is wrong with a record before its label is looked at: it is no add record, or its first bad column is this
 abbrev pub ColumnFault : List ℕ → Record → RecordFault → Type 0
-ColumnFault s x Unknown = IsAdd s x → ⊥
-ColumnFault s x (NotAWord p) = IsAdd s x × IsStatus (column s x 2) None × (p ≡ column_place x 2)
-ColumnFault s x (NotANumber p) = IsAdd s x × (status : Status) × (column s x 2 ≡ status_word status) × CodeFault s x p
-ColumnFault s x OutOfTurn = ⊥
-ColumnFault s x (Line r) = ⊥
+ColumnFault s x f = ((IsVerbOf s x Add → ⊥) × (f ≡ Unknown)) ⊎ (IsVerbOf s x Add × FirstBad s x 1 (sorts Add) f)
 
 -- the columns of an add record, or their first fault
 abbrev pub AddColumnsAre : List ℕ → Record → Result AddColumns RecordFault → Type 0

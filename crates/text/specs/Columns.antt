@@ -1,14 +1,24 @@
--- What a column says: a number, or one of the words for statuses, kinds and verbs.
--- Words: Says, IsNumber, IsWord, IsStatus, kind_word, IsKind, verb_word, IsVerb, OrFault.
-use Rattle.std.specs.Prelude.{◌≡◌, ◌≢◌, ℕ, ◌<◌, ◌^◌, List, codes, Option, Some, None, Result, Ok, Err}
+-- The columns of a record, and what one says: a number, or one of the words for statuses, kinds and verbs.
+-- Words: column, column_place, Says, IsNumber, IsWord, IsStatus, kind_word, IsKind, verb_word, IsVerb, OrFault.
+use Rattle.std.specs.Prelude.{◌≡◌, ◌≢◌, ℕ, ◌<◌, ◌^◌, List, codes, Option, Some, None, Result, Ok, Err, slice_index_or}
 use Rattle.std.specs.Fmt.{decimal}
 use Rattle.station.specs.declared.record.Status.{Status}
 use Rattle.station.specs.Words.{status_word}
 use Rattle.text.specs.declared.fault.RecordFault.{RecordFault}
+use Rattle.text.specs.declared.record.Record.{Record}
 use Rattle.text.specs.declared.words.KindName.{KindName}
 use Rattle.text.specs.declared.words.KindName.TheVariants.{Runs, Counts, Residues, Costs}
 use Rattle.text.specs.declared.words.Verb.{Verb}
 use Rattle.text.specs.declared.words.Verb.TheVariants as verbs
+use Rattle.text.specs.Places.{nowhere, raw_at}
+use Rattle.text.specs.Contents.{content}
+
+-- the columns count from 0, with the verb as the first; each is known by what it means
+abbrev pub column : List ℕ → Record → ℕ → List ℕ
+column s x k = content (raw_at s (slice_index_or x.fields k nowhere))
+
+abbrev pub column_place : Record → ℕ → ℕ
+column_place x k = (slice_index_or x.fields k nowhere).from
 
 -- n has at most 64 bits, and the bytes are its decimal text, which has no needless zero in front
 abbrev pub Says : ℕ → List ℕ → Type 0

@@ -11,7 +11,7 @@ use Rattle.text.specs.declared.fault.TextFault.TheVariants as of_text
 use Rattle.text.specs.declared.fault.Layer.{Layer}
 use Rattle.text.specs.declared.fault.Layer.TheVariants as layers
 use Rattle.text.specs.declared.fault.Refused.{Refused}
-use Rattle.text.specs.Writing.{longest}
+use Rattle.text.specs.Writing.{greatest_length}
 
 abbrev pub record_fault_number : RecordFault → ℕ
 record_fault_number of_record.Unknown = 21
@@ -72,4 +72,4 @@ place_of start of_text.TooLong = start
 
 -- the refusal at a record that begins at start. Bytes count from 1; no text is so long that the count would stop at the greatest number
 abbrev pub refused_at : TextFault → ℕ → ℕ → Refused
-refused_at f n start = record { fault = f; record_number = n; byte_number = min longest (place_of start f + 1) }
+refused_at f n start = record { fault = f; record_number = n; byte_number = min greatest_length (place_of start f + 1) }

@@ -1,9 +1,11 @@
 // What is wrong with a text: bytes that no record can have, or a well-formed record that is refused.
-ghost use Rattle.std.specs.Prelude.{◌≡◌};
+ghost use Rattle.std.specs.Prelude.{◌≡◌, ◌+◌, min};
 ghost use Rattle.text.specs.Faults.{record_fault_number, number_of, refusal_layer, record_layer, layer_of, layer_number, record_place, place_of, refused_at};
+ghost use Rattle.text.specs.Writing.{greatest_length};
 ghost use Rattle.text.specs.declared.fault.RecordFault.TheVariants as of_record;
 ghost use Rattle.text.specs.declared.fault.TextFault.TheVariants as of_text;
 
+use crate::record::Damage;
 use refusal::Refusal;
 
 // Why a well-formed record is refused.
@@ -61,6 +63,15 @@ impl From<RecordFault> for TextFault {
 
     fn from(fault: RecordFault) -> TextFault {
         TextFault::Record(fault)
+    }
+}
+
+impl Damage {
+    // The fault at the place where a record should have begun. The count stops at the greatest number, which no text is long enough for.
+    pub fn fault_at(self, start: usize) -> TextFault
+        ensures { result ≡ of_text.NotWellFormed (min greatest_length (start + self.offset)) }
+    {
+        TextFault::NotWellFormed(start.saturating_add(self.offset))
     }
 }
 

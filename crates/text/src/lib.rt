@@ -11,5 +11,6 @@ pub mod record;
 mod scan;
 pub mod sink;
 pub mod station_text;
+pub mod verb;
 pub mod words;
 pub mod written;

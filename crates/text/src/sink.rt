@@ -3,7 +3,8 @@ ghost use Rattle.std.specs.Prelude.{◌≡◌, List, ℕ, [], ◌∷◌, map};
 ghost use Rattle.std.specs.Fmt.{decimal};
 ghost use Rattle.text.specs.Writing.{with_text, line_of};
 
-// A space, and how many bytes have come for it so far: those for which there was room are in it. The count stops at the greatest number.
+// A space, and how many bytes have come for it so far. Those for which there was room are in it, if it began with none. The count stops at
+// the greatest number.
 #[derive(Drop)]
 pub struct Sink<'a> {
     pub out: &'a mut [u8],

@@ -1,6 +1,6 @@
 // The shape of a tree: how many stations it has, and with that its height and its nodes.
 ghost use Rattle.std.specs.Prelude.{◌≡◌, ◌+◌, ◌^◌, ◌≤◌, OnOk, count_ones};
-ghost use Rattle.refusal.specs.Refusals.{told, told_as, answered};
+ghost use Rattle.refusal.specs.Refusals.{by_number, by_number_as, answered};
 ghost use Rattle.tree.specs.Shape.{height, node_count, IsHeight, leaf, shape_refusal};
 ghost use Rattle.tree.specs.Refused.{room_refusal, window_refusal};
 
@@ -21,7 +21,7 @@ pub struct Shape {
 impl TryFrom<usize> for Shape {
     type Error = Refusal;
 
-    ghost try_from_gives = { λ n r. told_as (λ s. s.stations) r ≡ answered (shape_refusal n) n };
+    ghost try_from_gives = { λ n r. by_number_as (λ s. s.stations) r ≡ answered (shape_refusal n) n };
 
     fn try_from(n: usize) -> Result<Shape, Refusal> {
         match n {
@@ -91,7 +91,7 @@ impl Shape {
 
     // Refuses too few nodes.
     pub(crate) fn check_room(self, nodes: usize) -> Result<(), Refusal>
-        ensures answer { told result ≡ answered (room_refusal self.stations nodes) tt }
+        ensures answer { by_number result ≡ answered (room_refusal self.stations nodes) tt }
         ensures passed { OnOk result (node_count (height self.stations) ≤ nodes) }
     {
         if nodes < self.nodes() {
@@ -102,7 +102,7 @@ impl Shape {
 
     // Refuses too few nodes, and then a window that is not one of the line's.
     pub(crate) fn check(self, nodes: usize, first: usize, last: usize) -> Result<(), Refusal>
-        ensures answer { told result ≡ answered (window_refusal self.stations nodes first last) tt }
+        ensures answer { by_number result ≡ answered (window_refusal self.stations nodes first last) tt }
         ensures passed { OnOk result ((node_count (height self.stations) ≤ nodes) × (1 ≤ first) × (first ≤ last) × (last ≤ self.stations)) }
     {
         self.check_room(nodes)?;

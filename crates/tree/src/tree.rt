@@ -1,16 +1,16 @@
 // The tree of a line: its kind and its shape. It has no memory of its own, since each call is handed the nodes.
 ghost use Rattle.std.specs.Prelude.{◌≡◌, List, ◌+◌, ◌-◌, ◌^◌, ◌≤◌, length, OnOk, OnErr, IfOk, count_ones};
-ghost use Rattle.refusal.specs.Refusals.{told_as, told, answered};
+ghost use Rattle.refusal.specs.Refusals.{by_number_as, by_number, answered};
 ghost use Rattle.tree.specs.Shape.{height, leaf, node_count};
 ghost use Rattle.tree.specs.Blocks.{blocks};
 ghost use Rattle.tree.specs.Nodes.{StandsFor, SameTo, SameBehind, Rewritten, WriteLaws};
-ghost use Rattle.tree.specs.Gathered.{window_sum, as_sum, WindowLaws};
+ghost use Rattle.tree.specs.Gathered.{window_joining, as_joining, WindowLaws};
 ghost use Rattle.tree.specs.Refused.{fill_refusal, place_refusal, window_refusal, room_refusal};
 
 use crate::fill::{rejoin_all, rewrite, write_empty, write_stations};
 use crate::gather::gather_under;
+use crate::gathered::{Gathered, Joining};
 use crate::shape::Shape;
-use crate::sum::{Gathered, Sum};
 use kind::Kind;
 use refusal::Refusal;
 use station::record::Station;
@@ -29,7 +29,7 @@ impl<K: Kind> Tree<K> {
         stations: &[Station],
         nodes: &mut [K::Cell],
     ) -> Result<(Tree<K>, usize), Refusal>
-        ensures answer { let n = length stations.now in told_as (λ r. r.1) result ≡ answered (fill_refusal n (length nodes.old)) (2 ^ height n - 1) }
+        ensures answer { let n = length stations.now in by_number_as (λ r. r.1) result ≡ answered (fill_refusal n (length nodes.old)) (2 ^ height n - 1) }
         ensures tree { IfOk result (λ r. (r.0.kind ≡ kind) × (r.0.shape.stations ≡ length stations.now)) }
         ensures refused { OnErr result (nodes.new ≡ nodes.old) }
         ensures stands { OnOk result (StandsFor (K.Kind.ops kind) stations.now nodes.new) }
@@ -55,7 +55,7 @@ impl<K: Kind> Tree<K> {
         place: usize,
         station: &Station,
     ) -> Result<usize, Refusal>
-        ensures answer { let n = self.now.shape.stations in told result ≡ answered (place_refusal n (length nodes.old) place) (height n) }
+        ensures answer { let n = self.now.shape.stations in by_number result ≡ answered (place_refusal n (length nodes.old) place) (height n) }
         ensures refused { OnErr result (nodes.new ≡ nodes.old) }
         ensures written { let o = K.Kind.ops self.now.kind in
             OnOk result (Rewritten o (leaf (height self.now.shape.stations) place) (o.single station.now) nodes.old nodes.new) }
@@ -74,18 +74,18 @@ impl<K: Kind> Tree<K> {
         last: usize,
     ) -> Result<Gathered<K::Element>, Refusal>
         ensures answer { let n = self.now.shape.stations in let o = K.Kind.ops self.now.kind in
-            told_as as_sum result ≡ answered (window_refusal n (length nodes.now) first last) (window_sum o n nodes.now first last) }
+            by_number_as as_joining result ≡ answered (window_refusal n (length nodes.now) first last) (window_joining o n nodes.now first last) }
         ensures laws { IfOk result (WindowLaws (K.Kind.ops self.now.kind) self.now.shape.stations nodes.now first last) }
     {
         self.shape.check(nodes.len(), first, last)?;
-        self.window_sum(nodes, first, last).finish()
+        self.window_joining(nodes, first, last).finish()
     }
 
     // The same of all places. How many joins that takes is told by the number of stations: one less than it has one bits.
     #[tactic(auto, using(crate::proofs::BlockCounts::whole_ones))]
     pub fn gather_all(&self, nodes: &[K::Cell]) -> Result<Gathered<K::Element>, Refusal>
         ensures answer { let n = self.now.shape.stations in
-            told_as as_sum result ≡ answered (room_refusal n (length nodes.now)) (window_sum (K.Kind.ops self.now.kind) n nodes.now 1 n) }
+            by_number_as as_joining result ≡ answered (room_refusal n (length nodes.now)) (window_joining (K.Kind.ops self.now.kind) n nodes.now 1 n) }
         ensures laws { let n = self.now.shape.stations in IfOk result (WindowLaws (K.Kind.ops self.now.kind) n nodes.now 1 n) }
         ensures told { let n = self.now.shape.stations in IfOk result (λ g. g.joins + 1 ≡ count_ones n) }
         ensures ones { let n = self.now.shape.stations in OnOk result (length (blocks (height n) 1 n) ≡ count_ones n) }
@@ -99,16 +99,16 @@ impl<K: Kind> Tree<K> {
 
     // The window's blocks, joined.
     #[tactic(auto, using(crate::proofs::Heights::leaves_few, crate::proofs::Heights::height_small))]
-    fn window_sum(&self, nodes: &[K::Cell], first: usize, last: usize) -> Sum<K::Element>
+    fn window_joining(&self, nodes: &[K::Cell], first: usize, last: usize) -> Joining<K::Element>
         requires room { node_count (height self.now.shape.stations) ≤ length nodes.now }
         requires from { first ≤ 4096 }
         requires to { last ≤ 4096 }
-        ensures { result ≡ window_sum (K.Kind.ops self.now.kind) self.now.shape.stations nodes.now first last }
+        ensures { result ≡ window_joining (K.Kind.ops self.now.kind) self.now.shape.stations nodes.now first last }
     {
         let window = self.shape.window(first, last);
         let height = self.shape.height();
-        let mut sum = Sum::nothing();
-        gather_under(&self.kind, nodes, window, 1, height, &mut sum);
-        sum
+        let mut joining = Joining::nothing();
+        gather_under(&self.kind, nodes, window, 1, height, &mut joining);
+        joining
     }
 }

@@ -6,6 +6,6 @@ use Rattle.matrix.proofs.chain.Chain.add_row.Given as goal
 abbrev pub invariant-loop-j : goal.invariant-loop-j
 invariant-loop-j g l =
     (length l.total-items ≡ g.row.W)
-    × ((q : ℕ) → q < l.j → get_or l.total-items q 0 ≤ get_or l.initial.total-items q 0 + g.S.Semiring.step l.self.semiring)
+    × ((q : ℕ) → q < l.j → get_or l.total-items q 0 ≤ get_or l.initial.total-items q 0 + g.S.Semiring.growth l.self.semiring)
     × ((q : ℕ) → q < l.j → g.S.Semiring.code l.self.semiring (get_or l.total-items q 0) ≡ (g.S.Semiring.ops l.self.semiring).sum (g.S.Semiring.code l.self.semiring (get_or l.initial.total-items q 0)) ((g.S.Semiring.ops l.self.semiring).product l.x (at l.b l.l q)))
     × ((q : ℕ) → l.j ≤ q → get_or l.total-items q 0 ≡ get_or l.initial.total-items q 0)

@@ -8,7 +8,7 @@ use Rattle.matrix.proofs.chain.Chain.row_product.Goals.{then-not-adds_nothing, e
 pub loop-l-preserved : goal.loop-l-preserved
 loop-l-preserved g c =
     let s = c.args.self.now.semiring in
-    let r = room c.loop-l.l (g.S.Semiring.step s) (omega arith) in
+    let r = room c.loop-l.l (g.S.Semiring.growth s) (omega arith) in
     let within = c.loop-l.invariant.0 in
     let stands = c.loop-l.invariant.1 in
     let t = λ (q : ℕ). turn (g.S.Semiring.ops s) c.loop-l.l c.args.left.now c.args.b.now q (g.met.S.Semiring.lawful s) in
