@@ -1,5 +1,5 @@
 // A semiring whose product does not commute, to hold against what is promised of every semiring.
-ghost use Rattle.std.specs.Prelude.{true};
+ghost use Rattle.std.specs.Prelude.{◌==◌, true};
 ghost use Rattle.examples.specs.FirstDecides.{first_decides};
 ghost use Rattle.std.proofs.Common.{rules};
 
@@ -16,6 +16,10 @@ impl Semiring for FirstDecides {
 
     // A total is the code itself, and needs no bound.
     ghost code = { λ _ t. t };
+
+    ghost idle = { λ _ x. x == 0 };
+
+    ghost added = { λ _ t x y. first_decides.sum t (first_decides.product x y) };
 
     ghost growth = { λ _. 18446744073709551616 };
 
@@ -50,6 +54,10 @@ impl Semiring for FirstDecides {
             return 0;
         }
         if x == 2 { y } else { x }
+    }
+
+    fn adds_nothing(&self, x: u64) -> bool {
+        x == 0
     }
 
     fn is_plain(&self, _x: u64) -> bool {

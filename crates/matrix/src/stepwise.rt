@@ -15,6 +15,10 @@ impl<S: Semiring> Semiring for Stepwise<S> {
 
     ghost code = { λ _ t. t };
 
+    ghost idle = { λ s. S.Semiring.idle s.semiring };
+
+    ghost added = { λ s t x y. (S.Semiring.ops s.semiring).sum t ((S.Semiring.ops s.semiring).product x y) };
+
     // above every total, and above zero
     ghost growth = { λ s. (S.Semiring.ops s.semiring).zero + 18446744073709551616 };
 

@@ -1,5 +1,5 @@
 // Costs: 0 to 1,000,000,000,000, and a code for none. Sum is the lesser, product is addition that stops.
-ghost use Rattle.std.specs.Prelude.{min, true};
+ghost use Rattle.std.specs.Prelude.{◌+◌, ◌||◌, min, true, nat_le, if◌then◌else◌};
 ghost use Rattle.semiring.specs.Models.{costs, none};
 ghost use Rattle.std.proofs.Common.{rules};
 
@@ -17,6 +17,12 @@ impl Semiring for Costs {
     ghost ops = { λ _. costs };
 
     ghost code = { λ _ t. min t none };
+
+    // none, and codes that are no members
+    ghost idle = { λ _ x. nat_le none x };
+
+    // a product that is none leaves any total as it is
+    ghost added = { λ _ t x y. if nat_le none x || nat_le none y then t else min t (min (x + y) 1000000000000) };
 
     // above every total: costs need no bound on one
     ghost growth = { λ _. 18446744073709551616 };

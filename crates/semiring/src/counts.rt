@@ -1,5 +1,5 @@
 // Counts: 0 to 1,000,000,000; sum and product stop there.
-ghost use Rattle.std.specs.Prelude.{min, nat_le};
+ghost use Rattle.std.specs.Prelude.{◌+◌, ◌*◌, ◌%◌, bit_and, min, nat_le};
 ghost use Rattle.semiring.specs.CountsLaws.{counts_small, counts_reduction};
 
 use crate::reduced::Reduce;
@@ -16,6 +16,9 @@ impl Reduce for Counts {
     ghost member = { λ _ n. nat_le n 1000000000 };
 
     ghost reduction = { λ _ n. min n 1000000000 };
+
+    // the sum of the total and the product of the lower halves, to 64 bits
+    ghost added = { λ _ t x y. (t + bit_and x 4294967295 * bit_and y 4294967295 % 18446744073709551616) % 18446744073709551616 };
 
     // the greatest product
     ghost growth = { λ _. 1000000000000000000 };

@@ -29,16 +29,19 @@ pub trait Semiring: Copy {
     fn product(&self, x: u64, y: u64) -> u64
         ensures { result ≡ (ops self.now).product x y };
 
-    // Whether x is seen to make any product zero from the left, so that it may be passed over.
+    // Which codes are seen to make any product zero from the left, so that they may be passed over.
+    ghost idle: { Self → ℕ → Bool };
+
     fn adds_nothing(&self, x: u64) -> bool
-        ensures { result ≡ true → (y : ℕ) → (ops self.now).product x y ≡ (ops self.now).zero }
-    {
-        x == self.zero()
-    }
+        ensures idle { result ≡ idle self.now x }
+        ensures zero { result ≡ true → (y : ℕ) → (ops self.now).product x y ≡ (ops self.now).zero };
 
     // A sum of products may be built as a total that is no member yet, so that a reduction can wait. These say which code a total stands
-    // for, how much a product adds to a total at most, and which codes are plain: those that need no test with each product.
+    // for, what a product makes of a total, how much it adds at most, and which codes are plain: those that need no test with each
+    // product.
     ghost code: { Self → ℕ → ℕ };
+
+    ghost added: { Self → ℕ → ℕ → ℕ → ℕ };
 
     ghost growth: { Self → ℕ };
 
@@ -47,8 +50,10 @@ pub trait Semiring: Copy {
     fn is_plain(&self, x: u64) -> bool
         ensures { result ≡ plain self.now x };
 
-    // The total with the product of two plain codes, if the total is small enough for it. From zero on, nine products can be added.
+    // The total with the product of two plain codes, if the total is small enough for it. From zero on, nine products can be added. Of
+    // other codes, and of greater totals, it is known what is answered and not what that means.
     fn plus_product(&self, total: u64, x: u64, y: u64) -> u64
+        ensures added { result ≡ added self.now total x y }
         ensures within { plain self.now x ≡ true → plain self.now y ≡ true → result ≤ total + growth self.now }
         ensures adds { plain self.now x ≡ true → plain self.now y ≡ true → total ≤ 9 * growth self.now
             → code self.now result ≡ (ops self.now).sum (code self.now total) ((ops self.now).product x y) };

@@ -1,5 +1,5 @@
 // Whole numbers under a reduction: the one implementation for counts and residues.
-ghost use Rattle.std.specs.Prelude.{◌≡◌, ℕ, ◌+◌, ◌*◌, ◌<◌, ◌≤◌, Bool, true};
+ghost use Rattle.std.specs.Prelude.{◌≡◌, ℕ, ◌+◌, ◌*◌, ◌<◌, ◌≤◌, ◌==◌, Bool, true};
 ghost use Rattle.semiring.specs.Models.{reduced};
 ghost use Rattle.semiring.specs.Reduced.{Reduction, reduced_lawful, reduced_starts};
 
@@ -20,8 +20,12 @@ pub trait Reduce: Copy {
     // What a product of members adds to a total at most.
     ghost growth: { Self → ℕ };
 
+    // What the product makes of a total.
+    ghost added: { Self → ℕ → ℕ → ℕ → ℕ };
+
     // A number with the reduction of the total and the product together, of members and where the total is small enough.
     fn add_product(&self, total: u64, x: u64, y: u64) -> u64
+        ensures added { result ≡ added self.now total x y }
         ensures within { member self.now x ≡ true → member self.now y ≡ true → result ≤ total + growth self.now }
         ensures same { member self.now x ≡ true → member self.now y ≡ true → total ≤ 9 * growth self.now
             → reduction self.now result ≡ reduction self.now (total + x * y) };
@@ -37,6 +41,10 @@ impl<R: Reduce> Semiring for R {
     ghost lawful = { λ r. reduced_lawful (R.Reduce.member r) (R.Reduce.reduction r) (R.Reduce.lawful r) };
 
     ghost code = { λ r. R.Reduce.reduction r };
+
+    ghost idle = { λ _ x. x == 0 };
+
+    ghost added = { λ r. R.Reduce.added r };
 
     ghost growth = { λ r. R.Reduce.growth r };
 
@@ -69,6 +77,10 @@ impl<R: Reduce> Semiring for R {
             return 0;
         }
         self.reduce(x * y)
+    }
+
+    fn adds_nothing(&self, x: u64) -> bool {
+        x == 0
     }
 
     fn is_plain(&self, x: u64) -> bool {

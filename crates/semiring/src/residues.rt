@@ -1,5 +1,5 @@
 // Residues by a modulus m from 2 to 2,147,483,647: 0 to m - 1.
-ghost use Rattle.std.specs.Prelude.{◌≡◌, ◌≤◌, ◌%◌, nat_lt};
+ghost use Rattle.std.specs.Prelude.{◌≡◌, ◌≤◌, ◌+◌, ◌*◌, ◌%◌, nat_lt, if◌then◌else◌};
 ghost use Rattle.refusal.specs.Refusals.{by_number_as, answered};
 ghost use Rattle.semiring.specs.Models.{modulus_refusal};
 ghost use Rattle.semiring.specs.ResiduesLaws.{residues_small, residues_reduction};
@@ -32,6 +32,10 @@ impl Reduce for Residues {
     ghost member = { λ s n. nat_lt n s.modulus };
 
     ghost reduction = { λ s n. n % s.modulus };
+
+    // the product to 64 bits, and the total with it, or what is left of the total where that is too much
+    ghost added = { λ s t x y. let p = x * y % 18446744073709551616 in
+        if nat_lt (t + p) 18446744073709551616 then t + p else (t % s.modulus + p) % 18446744073709551616 };
 
     // above every total: a total is reduced before it would be too great
     ghost growth = { λ _. 18446744073709551616 };

@@ -14,5 +14,5 @@ loop-l-preserved g c =
     let t = λ (q : ℕ). turn (g.S.Semiring.ops s) c.loop-l.l c.args.left.now c.args.b.now q (g.met.S.Semiring.lawful s) in
     elim c.if-not-adds_nothing.branch [
       | then-not-adds_nothing w ↦ (λ q hq. grind (arith, places, r, w.totals-is, w.add_row.ensures.within q hq, within q hq), λ q hq. grind (arith, places, t q, r, w.totals-is, w.add_row.ensures.adds q hq, within q hq, stands q hq))
-      | else-not-adds_nothing w ↦ (λ q hq. grind (arith, places, r, w.totals-is, within q hq), λ q hq. grind (arith, places, t q, w.totals-is, c.adds_nothing.ensures, w.if-not-adds_nothing, stands q hq))
+      | else-not-adds_nothing w ↦ (λ q hq. grind (arith, places, r, w.totals-is, within q hq), λ q hq. grind (arith, places, t q, w.totals-is, c.adds_nothing.ensures.zero, w.if-not-adds_nothing, stands q hq))
     ]
