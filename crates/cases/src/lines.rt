@@ -67,7 +67,10 @@ pub(crate) fn close<K: Kind>(
     list: &[Station],
     nodes: &mut [K::Cell],
 ) -> Result<(Standing<K>, usize), Refusal> {
-    line.close(list, nodes).map_err(|(_, refusal)| refusal)
+    match line.close(list, nodes) {
+        Ok(closed) => Ok(closed),
+        Err((_, refusal)) => Err(refusal),
+    }
 }
 
 // A line closed over these stations.

@@ -228,10 +228,8 @@ fn answers<K: Kind>(
     windows: &[Window],
 ) -> Result<(), Fail> {
     for (first, last, expected) in windows {
-        let stretch = first
-            .checked_sub(1)
-            .and_then(|before| stations.get(before..*last))
-            .ok_or("no window")?;
+        let before = first.checked_sub(1).ok_or("no window")?;
+        let stretch = stations.get(before..*last).ok_or("no window")?;
         let Gathered { element, joins } = tree.gather(nodes, *first, *last)?;
         assert_eq!(rt; joins, *expected, "places {first} to {last}");
         let figures = tree.kind.window_figures(&element);

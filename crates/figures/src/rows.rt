@@ -58,13 +58,26 @@ fn show_both<K: Kind>(
     Ok(both)
 }
 
-fn judged(up: u64, down: u64) -> Result<Station, Refusal> {
-    Station::new(b"", Status::Judged, up, down)
+fn station(status: Status, up: u64, down: u64) -> Station {
+    Station {
+        label: [0; 24],
+        status,
+        up,
+        down,
+    }
+}
+
+fn judged(up: u64, down: u64) -> Station {
+    station(Status::Judged, up, down)
+}
+
+fn of_status(status: Status) -> Station {
+    station(status, 0, 0)
 }
 
 // Counts of stations with 1 and 1.
 fn even_counts(rt: &HostRuntime) -> Result<(), Trouble> {
-    let five = [judged(1, 1)?; 5];
+    let five = [judged(1, 1); 5];
     let one = Weights::new(Counts, 1)?;
     let two = Weights::new(Counts, 2)?;
     let three = Weights::new(Counts, 3)?;
@@ -93,21 +106,21 @@ fn middle<K: Kind>(rt: &HostRuntime, kind: &K, five: &[Station]) -> Result<(), T
 
 fn full_counts(rt: &HostRuntime) -> Result<(), Trouble> {
     let one = Weights::new(Counts, 1)?;
-    let full = [judged(1, 1_000_000_000)?; 2];
+    let full = [judged(1, 1_000_000_000); 2];
     let row = show_both(rt, "counts, k 1, n 2, each 1 and 1000000000", &one, &full)?;
     compare(Row::FullCount, row.window)
 }
 
 fn residues(rt: &HostRuntime) -> Result<(), Trouble> {
     let two = Weights::new(Residues::try_from(7u64)?, 2)?;
-    let four = [judged(1, 1)?; 4];
+    let four = [judged(1, 1); 4];
     let row = show_both(rt, "residues by 7, k 2, n 4, each 1 and 1", &two, &four)?;
     compare(Row::ResiduesOfFour, row.window)?;
     compare(Row::ResiduesRing, row.ring)
 }
 
 fn costs(rt: &HostRuntime) -> Result<(), Trouble> {
-    let mut four = [judged(0, 2)?, judged(0, 9)?, judged(0, 4)?, judged(0, 1)?];
+    let mut four = [judged(0, 2), judged(0, 9), judged(0, 4), judged(0, 1)];
     let two = Weights::new(Costs, 2)?;
     let row = show_both(rt, "costs, k 2, n 4, up 0, down 2, 9, 4, 1", &two, &four)?;
     compare(Row::CheapestBreak, row.window)?;
@@ -118,11 +131,8 @@ fn costs(rt: &HostRuntime) -> Result<(), Trouble> {
 }
 
 fn runs(rt: &HostRuntime) -> Result<(), Trouble> {
-    let mut four = [judged(0, 0)?; 4];
-    let statuses = [Status::Down, Status::Down, Status::Up, Status::Down];
-    for (station, status) in four.iter_mut().zip(statuses) {
-        station.status = status;
-    }
+    let [down, up] = [of_status(Status::Down), of_status(Status::Up)];
+    let four = [down, down, up, down];
     let row = show_both(rt, "runs, n 4, down, down, up, down", &Runs, &four)?;
     compare(Row::Runs, row.window)?;
     compare(Row::RunsRing, row.ring)
