@@ -1,5 +1,6 @@
-// The text that the program reads.
-use crate::answers::LONGEST_TEXT;
+// What the program makes of its input.
+use crate::answers::{LONGEST_TEXT, answers};
+use crate::trouble::Trouble;
 use std::alloc::Global;
 use std::io::{self, Read};
 
@@ -8,4 +9,10 @@ pub(crate) fn read_text<R: Read + Drop>(alloc: Global, input: R) -> io::Result<V
     let mut text = Vec::new(alloc);
     input.take(LONGEST_TEXT as u64 + 1).read_to_end(&mut text)?;
     Ok(text)
+}
+
+// The answers to all of it.
+pub(crate) fn answered<R: Read + Drop>(alloc: Global, input: R) -> Result<Vec<u8>, Trouble> {
+    let text = read_text(alloc, input)?;
+    Ok(answers(alloc, &text)?)
 }

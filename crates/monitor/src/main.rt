@@ -7,13 +7,11 @@ mod input;
 mod tests;
 mod trouble;
 
-use answers::answers;
-use input::read_text;
+use input::answered;
 use std::io::{self, Write};
 use trouble::Trouble;
 
 fn main(rt: HostRuntime) -> Result<(), Trouble> {
-    let text = read_text(rt.alloc(), rt.reader())?;
-    let answers = answers(rt.alloc(), &text)?;
+    let answers = answered(rt.alloc(), rt.reader())?;
     Ok(io::writer(&rt).write_all(&answers)?)
 }

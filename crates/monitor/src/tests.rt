@@ -1,15 +1,15 @@
 // Texts of as many bytes as the program serves, and of more.
-use crate::answers::answers;
-use crate::input::read_text;
+use crate::input::{answered, read_text};
 use std::test::Fail;
 
-// Line feeds alone: the first byte is impossible, and there is no CRLF behind which reading could go on.
+// Letters, and at the end a line feed, which is the first impossible byte: so the answer tells that the last byte was read.
 #[test]
 fn the_longest_texts(rt: HostRuntime) -> Result<(), Fail> {
-    let text = vec![in rt.alloc(); b'\n'; 4097]?;
-    let served = answers(rt.alloc(), &text[..4096])?;
-    assert!(rt; served.as_slice() == b"no,20,1,1,1\r\n".as_slice());
-    let refused = answers(rt.alloc(), &text)?;
+    let mut text = vec![in rt.alloc(); b'a'; 4097]?;
+    text[4095] = b'\n';
+    let served = answered(rt.alloc(), &text[..4096])?;
+    assert!(rt; served.as_slice() == b"no,20,1,1,4096\r\n".as_slice());
+    let refused = answered(rt.alloc(), text.as_slice())?;
     assert!(rt; refused.as_slice() == b"no,25,1,1,1\r\n".as_slice());
     Ok(())
 }
