@@ -1,11 +1,11 @@
 // What a standing line tests before it does anything, each test in the order of the checks.
-ghost use Rattle.std.specs.Prelude.{◌≡◌, ◌-◌, ◌<◌, ◌≤◌, true, not, Some, OnOk, false, IfOk, length, take, slice_get};
+ghost use Rattle.std.specs.Prelude.{◌≡◌, ◌<◌, ◌≤◌, true, not, ◌&&◌, OnOk, false, IfOk, length, take, nat_le};
 ghost use Rattle.std.specs.List.{list_any};
 ghost use Rattle.refusal.specs.Refusals.{by_number, by_number_as, answered};
 ghost use Rattle.tree.specs.Shape.{height, node_count};
 ghost use Rattle.tree.specs.Refused.{no_window};
 ghost use Rattle.line.specs.State.{count_of, entries_of, in_trial};
-ghost use Rattle.line.specs.Refused.{rooms_refusal, set_refusal, back_refusal, ring_refusal, cannot_put, any_bad};
+ghost use Rattle.line.specs.Refused.{rooms_refusal, set_refusal, back_refusal, ring_refusal, takes_at, cannot_put, any_bad};
 
 use crate::lines::Standing;
 use crate::rooms::Rooms;
@@ -53,18 +53,17 @@ impl<K: Kind> Standing<K> {
         1 <= place && place <= self.count()
     }
 
-    // Tests a set, and answers the record that stands at the place.
+    // Tests a set.
     pub(crate) fn check_set(
         &self,
         list: &[Station],
         rooms: Rooms,
         place: usize,
         values: Values,
-    ) -> Result<Station, Refusal>
+    ) -> Result<(), Refusal>
         requires { rooms.list ≡ length list.now }
         ensures answer { by_number_as (λ _. height (count_of self.now)) result
             ≡ answered (set_refusal (K.Kind.ops self.now.tree.kind) (count_of self.now) self.now.trial list.now rooms place values) (height (count_of self.now)) }
-        ensures found { IfOk result (λ x. slice_get list.now (place - 1) ≡ Some x) }
         ensures place { OnOk result ((1 ≤ place) × (place ≤ count_of self.now)) }
         ensures spaces { OnOk result ((count_of self.now ≤ rooms.list) × (node_count (height (count_of self.now)) ≤ rooms.nodes)) }
         ensures journal { OnOk result (in_trial self.now.trial ≡ true → entries_of self.now.trial < rooms.journal) }
@@ -73,14 +72,29 @@ impl<K: Kind> Standing<K> {
         if !self.has(place) {
             return Err(Refusal::OutsideLine);
         }
-        let station = list[place - 1];
-        if !self.tree.kind.takes(&values.on(&station)) {
+        if !self.takes_at(list, place, values) {
             return Err(Refusal::NotTaken);
         }
-        if self.trial.is_some() && rooms.journal <= self.entries() {
+        if self.is_full(rooms.journal) {
             return Err(Refusal::JournalFull);
         }
-        Ok(station)
+        Ok(())
+    }
+
+    // Whether the kind takes the record at a place with other values.
+    fn takes_at(&self, list: &[Station], place: usize, values: Values) -> bool
+        requires from { 1 ≤ place }
+        requires to { place ≤ length list.now }
+        ensures { result ≡ takes_at (K.Kind.ops self.now.tree.kind) list.now place values }
+    {
+        self.tree.kind.takes(&values.on(&list[place - 1]))
+    }
+
+    // Whether a trial is open, and a journal with so much room has none left for an entry.
+    fn is_full(&self, journal: usize) -> bool
+        ensures { result ≡ (in_trial self.now.trial && nat_le journal (entries_of self.now.trial)) }
+    {
+        self.trial.is_some() && journal <= self.entries()
     }
 
     // Whether an entry cannot be put back.
@@ -88,11 +102,7 @@ impl<K: Kind> Standing<K> {
         requires { count_of self.now ≤ length list.now }
         ensures { result ≡ cannot_put (K.Kind.ops self.now.tree.kind) (count_of self.now) list.now entry.now }
     {
-        if !self.has(entry.place) {
-            return true;
-        }
-        let station = entry.values.on(&list[entry.place - 1]);
-        !self.tree.kind.takes(&station)
+        !self.has(entry.place) || !self.takes_at(list, entry.place, entry.values)
     }
 
     // Tests a back, and answers how many entries it puts back.

@@ -1,12 +1,12 @@
 // A filling line's calls: new, add, close.
-ghost use Rattle.std.specs.Prelude.{◌≡◌, ◌-◌, ◌^◌, List, length, take, IfOk, OnOk, OnErr};
+ghost use Rattle.std.specs.Prelude.{◌≡◌, ◌+◌, ◌-◌, ◌^◌, ◌<◌, List, length, take, None, IfOk, OnOk, OnErr};
 ghost use Rattle.refusal.specs.Refusals.{by_number_as, answered};
 ghost use Rattle.station.specs.declared.record.Station.{Station};
 ghost use Rattle.tree.specs.Shape.{height, node_count};
 ghost use Rattle.tree.specs.Nodes.{StandsFor, SameBehind};
 ghost use Rattle.line.specs.declared.rooms.Rooms.{Rooms};
-ghost use Rattle.line.specs.View.{Heard, silence};
-ghost use Rattle.line.specs.Refused.{close_refusal};
+ghost use Rattle.line.specs.View.{Heard, silence, made};
+ghost use Rattle.line.specs.Refused.{add_refusal, close_refusal};
 ghost use Rattle.line.specs.Replies.{reply_of, close_reply};
 ghost use Rattle.line.specs.Calls.{AddCall, CloseCall};
 ghost use Rattle.line.specs.Agreement.{Fills};
@@ -55,20 +55,30 @@ impl<K: Kind> Filling<K> {
     ) -> Result<usize, Refusal>
         ensures { AddCall (K.Kind.ops self.old.kind) label.now values self.old list.old result self.new list.new }
     {
-        let n = self.stations;
-        if n >= MOST_STATIONS {
+        let station = self.check_add(list.len(), label, values)?;
+        list[self.stations] = station;
+        self.stations += 1;
+        Ok(self.stations)
+    }
+
+    // Tests an add to a list with so much room, and answers the record that it makes.
+    fn check_add(&self, room: usize, label: &[u8], values: Values) -> Result<Station, Refusal>
+        ensures answer { let n = self.now.stations in
+            by_number_as (λ _. n + 1) result ≡ answered (add_refusal (K.Kind.ops self.now.kind) n room label.now (made label.now values)) (n + 1) }
+        ensures made { IfOk result (λ x. x ≡ made label.now values) }
+        ensures room { OnOk result ((self.now.stations < 4096) × (self.now.stations < room)) }
+    {
+        if self.stations >= MOST_STATIONS {
             return Err(Refusal::TooManyStations);
         }
-        if list.len() <= n {
+        if room <= self.stations {
             return Err(Refusal::SpaceTooShort);
         }
         let station = Station::new(label, values.status, values.up, values.down)?;
         if !self.kind.takes(&station) {
             return Err(Refusal::NotTaken);
         }
-        list[n] = station;
-        self.stations = n + 1;
-        Ok(n + 1)
+        Ok(station)
     }
 
     // Fills the nodes with the stations, and answers how many joins that took. A refused close gives the filling line back.
@@ -94,7 +104,7 @@ impl<K: Kind> Filling<K> {
         ensures { CloseCall (K.Kind.ops self.kind) self list.now nodes.old result nodes.new }
     {
         match self.fill_tree(list, nodes) {
-            Ok((tree, joins)) => Ok((Standing { tree, trial: None }, joins)),
+            Ok((tree, joins)) => Ok((Standing::new(tree), joins)),
             Err(refusal) => Err((self, refusal)),
         }
     }
@@ -114,5 +124,14 @@ impl<K: Kind> Filling<K> {
     {
         let stations = list.get(..self.stations).ok_or(Refusal::SpaceTooShort)?;
         Tree::fill(self.kind, stations, nodes)
+    }
+}
+
+impl<K: Kind> Standing<K> {
+    // A line over a filled tree, with no trial open.
+    fn new(tree: Tree<K>) -> Standing<K>
+        ensures { result ≡ record { tree = tree; trial = None } }
+    {
+        Standing { tree, trial: None }
     }
 }

@@ -34,7 +34,7 @@ impl<K: Kind> Standing<K> {
         self.do_set(list, nodes, journal, place, values)
     }
 
-    // What `set` does: first the entry, while the old values still stand.
+    // What `set` does.
     pub(crate) fn do_set(
         &mut self,
         list: &mut [Station],
@@ -47,9 +47,23 @@ impl<K: Kind> Standing<K> {
             (at self.new list.new nodes.new journal.new) }
     {
         let rooms = Rooms::of(list, nodes, journal);
-        let old = self.check_set(list, rooms, place, values)?;
+        self.check_set(list, rooms, place, values)?;
+        self.change(list, journal, place, values);
+        self.renew(list, nodes, place)
+    }
+
+    // Puts other values at a place, and first, in a trial, enters the old ones.
+    fn change(&mut self, list: &mut [Station], journal: &mut [Entry], place: usize, values: Values)
+        requires from { 1 ≤ place }
+        requires to { place ≤ length list.old }
+        requires journal { in_trial self.old.trial ≡ true → entries_of self.old.trial < length journal.old }
+        ensures line { self.new ≡ record { tree = self.old.tree; trial = one_more self.old.trial } }
+        ensures list { list.new ≡ put list.old place values }
+        ensures journal { journal.new ≡ entered self.old.trial place (slice_get list.old (place - 1)) journal.old }
+    {
+        let old = list[place - 1];
         self.enter(journal, place, &old);
-        self.replace(list, nodes, place, values)
+        list[place - 1] = values.on(&old);
     }
 
     // In a trial, enters place and values of a station in the journal, behind the other entries.
@@ -66,7 +80,6 @@ impl<K: Kind> Standing<K> {
     }
 
     // Puts other values at a place, and renews its leaf and the nodes above it.
-    #[tactic(auto, using(crate::proofs::Undoing::renewed))]
     pub(crate) fn replace(
         &self,
         list: &mut [Station],
@@ -82,13 +95,25 @@ impl<K: Kind> Standing<K> {
         ensures list { list.new ≡ put list.old place values }
         ensures nodes { Renewed (K.Kind.ops self.now.tree.kind) (count_of self.now) place list.new nodes.old nodes.new }
     {
-        let station = values.on(&list[place - 1]);
-        list[place - 1] = station;
-        self.renew(nodes, place, &station)
+        list[place - 1] = values.on(&list[place - 1]);
+        self.renew(list, nodes, place)
     }
 
-    // Writes the leaf of a place for a station, and rejoins the nodes above it.
-    fn renew(
+    // Writes the leaf of a place for the station that is there, and rejoins the nodes above it.
+    #[tactic(auto, using(crate::proofs::Undoing::renewed))]
+    fn renew(&self, list: &[Station], nodes: &mut [K::Cell], place: usize) -> Result<usize, Refusal>
+        requires from { 1 ≤ place }
+        requires to { place ≤ count_of self.now }
+        requires list { count_of self.now ≤ length list.now }
+        requires nodes { node_count (height (count_of self.now)) ≤ length nodes.old }
+        ensures done { result ≡ Ok (height (count_of self.now)) }
+        ensures nodes { Renewed (K.Kind.ops self.now.tree.kind) (count_of self.now) place list.now nodes.old nodes.new }
+    {
+        self.write(nodes, place, &list[place - 1])
+    }
+
+    // What the tree does with a place that is one of the line's: nothing is refused.
+    fn write(
         &self,
         nodes: &mut [K::Cell],
         place: usize,
@@ -98,7 +123,8 @@ impl<K: Kind> Standing<K> {
         requires to { place ≤ count_of self.now }
         requires nodes { node_count (height (count_of self.now)) ≤ length nodes.old }
         ensures done { result ≡ Ok (height (count_of self.now)) }
-        ensures nodes { Rewritten (K.Kind.ops self.now.tree.kind) (leaf (height (count_of self.now)) place) ((K.Kind.ops self.now.tree.kind).single station.now) nodes.old nodes.new }
+        ensures nodes { let o = K.Kind.ops self.now.tree.kind in
+            Rewritten o (leaf (height (count_of self.now)) place) (o.single station.now) nodes.old nodes.new }
     {
         self.tree.write(nodes, place, station)
     }

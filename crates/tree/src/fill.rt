@@ -3,7 +3,7 @@ ghost use Rattle.std.specs.Prelude.{◌≡◌, ℕ, ◌+◌, ◌*◌, ◌/◌, �
 ghost use Rattle.station.specs.declared.record.Station.{Station};
 ghost use Rattle.tree.specs.Nodes.{cell_of, Holds, IsJoined, parent_of, Rewritten};
 
-use crate::node::{rejoin, write};
+use crate::node::{rejoin, write, write_station};
 use kind::Kind;
 use station::record::Station;
 
@@ -21,7 +21,7 @@ pub(crate) fn write_stations<K: Kind>(
     ensures others { (i : ℕ) → 1 ≤ i → (i < first) ⊎ (first + length stations.now ≤ i) → cell_of nodes.new i ≡ cell_of nodes.old i }
 {
     for (q, station) in stations.iter().enumerate() {
-        write(kind, nodes, first + q, &kind.single(station));
+        write_station(kind, nodes, first + q, station);
     }
 }
 
@@ -63,21 +63,21 @@ fn parent(i: usize) -> Option<usize>
     if i > 1 { Some(i / 2) } else { None }
 }
 
-// Writes a leaf and rejoins each node above it, from below, and counts the joins.
+// Writes a leaf with a station's element and rejoins each node above it, from below, and counts the joins.
 #[tactic(auto, using(crate::proofs::Rewriting::raised_first))]
 pub(crate) fn rewrite<K: Kind>(
     kind: &K,
     nodes: &mut [K::Cell],
     leaf: usize,
-    element: &K::Element,
+    station: &Station,
 ) -> usize
     requires low { 1 ≤ leaf }
     requires few { leaf < 8192 }
     requires room { 2 * (leaf / 2) + 1 ≤ length nodes.old }
     ensures joins { leaf / 2 ^ result ≡ 1 }
-    ensures written { Rewritten (K.Kind.ops kind.now) leaf element.now nodes.old nodes.new }
+    ensures written { let o = K.Kind.ops kind.now in Rewritten o leaf (o.single station.now) nodes.old nodes.new }
 {
-    write(kind, nodes, leaf, element);
+    write_station(kind, nodes, leaf, station);
     let mut joins = 0;
     let mut i = leaf;
     while let Some(above) = parent(i) {

@@ -1,8 +1,8 @@
 // The shape of a tree: how many stations it has, and with that its height and its nodes.
-ghost use Rattle.std.specs.Prelude.{◌≡◌, ◌+◌, ◌^◌, ◌≤◌, OnOk, count_ones};
+ghost use Rattle.std.specs.Prelude.{◌≡◌, ◌+◌, ◌^◌, ◌≤◌, OnOk, IfOk, count_ones};
 ghost use Rattle.refusal.specs.Refusals.{by_number, by_number_as, answered};
 ghost use Rattle.tree.specs.Shape.{height, node_count, IsHeight, leaf, shape_refusal};
-ghost use Rattle.tree.specs.Refused.{room_refusal, window_refusal};
+ghost use Rattle.tree.specs.Refused.{room_refusal, place_refusal, window_refusal};
 
 use crate::leaves::Leaves;
 use refusal::Refusal;
@@ -110,5 +110,15 @@ impl Shape {
             return Err(Refusal::OutsideLine);
         }
         Ok(())
+    }
+
+    // The leaf of a place. Refuses too few nodes, and then a place that is not one of the line's.
+    pub(crate) fn check_place(self, nodes: usize, place: usize) -> Result<usize, Refusal>
+        ensures answer { let h = height self.stations in by_number_as (λ _. h) result ≡ answered (place_refusal self.stations nodes place) h }
+        ensures passed { OnOk result ((node_count (height self.stations) ≤ nodes) × (1 ≤ place) × (place ≤ self.stations)) }
+        ensures leaf { IfOk result (λ i. i ≡ leaf (height self.stations) place) }
+    {
+        self.check(nodes, place, place)?;
+        Ok(self.leaf(place))
     }
 }

@@ -23,7 +23,7 @@ pub struct Tree<K> {
 
 impl<K: Kind> Tree<K> {
     // Fills the nodes with the stations, and answers their tree and how many joins that took.
-    #[tactic(auto, using(crate::proofs::Heights::leaves_few, crate::proofs::Heights::stations_fit))]
+    #[tactic(auto, using(crate::proofs::Standing::same_nodes))]
     pub fn fill(
         kind: K,
         stations: &[Station],
@@ -39,16 +39,29 @@ impl<K: Kind> Tree<K> {
     {
         let shape = Shape::try_from(stations.len())?;
         shape.check_room(nodes.len())?;
-        let leaves = shape.leaves();
-        write_stations(&kind, stations, nodes, leaves);
-        write_empty(&kind, nodes, leaves + stations.len(), 2 * leaves);
-        let joins = rejoin_all(&kind, nodes, leaves);
-        Ok((Tree { kind, shape }, joins))
+        let tree = Tree { kind, shape };
+        let joins = tree.fill_nodes(stations, nodes);
+        Ok((tree, joins))
+    }
+
+    // Fills nodes that there are enough of, and answers how many joins that took.
+    #[tactic(auto, using(crate::proofs::Heights::leaves_few, crate::proofs::Heights::stations_fit))]
+    fn fill_nodes(&self, stations: &[Station], nodes: &mut [K::Cell]) -> usize
+        requires stations { self.now.shape.stations ≡ length stations.now }
+        requires room { node_count (height (length stations.now)) ≤ length nodes.old }
+        ensures joins { result ≡ 2 ^ height (length stations.now) - 1 }
+        ensures stands { StandsFor (K.Kind.ops self.now.kind) stations.now nodes.new }
+        ensures behind { SameBehind (node_count (height (length stations.now))) nodes.old nodes.new }
+    {
+        let leaves = self.shape.leaves();
+        write_stations(&self.kind, stations, nodes, leaves);
+        write_empty(&self.kind, nodes, leaves + stations.len(), 2 * leaves);
+        rejoin_all(&self.kind, nodes, leaves)
     }
 
     // Writes the leaf of a place with a station's element, rejoins the nodes above it, and answers how many joins that took. What the
     // nodes hold besides is used as it stands.
-    #[tactic(auto, using(crate::proofs::Heights::leaves_few, crate::proofs::Heights::stations_fit, crate::proofs::Halving::place_way_up, crate::proofs::Answering::not_refused, crate::proofs::Standing::write_laws))]
+    #[tactic(auto, using(crate::proofs::Heights::leaves_few, crate::proofs::Heights::stations_fit, crate::proofs::Halving::place_way_up, crate::proofs::Standing::write_laws))]
     pub fn write(
         &self,
         nodes: &mut [K::Cell],
@@ -61,9 +74,8 @@ impl<K: Kind> Tree<K> {
             OnOk result (Rewritten o (leaf (height self.now.shape.stations) place) (o.single station.now) nodes.old nodes.new) }
         ensures laws { OnOk result (WriteLaws (K.Kind.ops self.now.kind) self.now.shape.stations place station.now nodes.old nodes.new) }
     {
-        self.shape.check(nodes.len(), place, place)?;
-        let element = self.kind.single(station);
-        Ok(rewrite(&self.kind, nodes, self.shape.leaf(place), &element))
+        let leaf = self.shape.check_place(nodes.len(), place)?;
+        Ok(rewrite(&self.kind, nodes, leaf, station))
     }
 
     // Joins the nodes of the window's largest whole blocks from left to right, whatever they hold.
