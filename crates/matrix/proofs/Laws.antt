@@ -25,6 +25,7 @@ choice_in S b x y hx hy = grind arith
 
 module _ (S : SemiringOps) (L : SemiringLaws S) (w : ℕ) where
   pub delta_in : (i j : ℕ) → In S (delta S i j)
+  unfolding delta
   delta_in i j = choice_in S (eqb i j) S.one S.zero L.one_in L.zero_in
 
   module _ (small : w ≤ 9) where
@@ -49,6 +50,7 @@ module _ (S : SemiringOps) (L : SemiringLaws S) (w : ℕ) where
         (sym (times_sum_over S L _ (λ l. product_member S L (at b m l) (at c l j)) (at a i m) (fa.members i m hi hm) (range_with_len 0 w)))))
 
     pub product_unit_left : (a : Matrix) → Fit S w a → matrix_product S w (unit_matrix S w) a ≡ a
+    unfolding delta
     product_unit_left a fa =
         table_cong w _ (at a)
         (λ i j hi hj.
@@ -57,6 +59,7 @@ module _ (S : SemiringOps) (L : SemiringLaws S) (w : ℕ) where
         ∙ sym (fit_is S w a fa)
 
     pub product_unit_right : (a : Matrix) → Fit S w a → matrix_product S w a (unit_matrix S w) ≡ a
+    unfolding delta
     product_unit_right a fa =
         table_cong w _ (at a)
         (λ i j hi hj.
@@ -66,4 +69,5 @@ module _ (S : SemiringOps) (L : SemiringLaws S) (w : ℕ) where
 
 -- a station's matrix is fit
 pub Fit-station : (S : SemiringOps) (L : SemiringLaws S) (k : ℕ) → k ≤ 4 → (u d : ℕ) → In S u → In S d → Fit S (2 * k + 1) (station_matrix S k u d)
+unfolding station_code
 Fit-station S L k high u d hu hd = Fit-table S (2 * k + 1) (station_code S k u d) (omega arith) (λ i j hi hj. search (choice_in S, L.zero_in))

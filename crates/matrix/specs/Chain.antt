@@ -8,14 +8,14 @@ use Rattle.matrix.specs.declared.grid.Matrix.{Matrix}
 use Rattle.matrix.specs.Matrix.{at, table}
 
 -- where an up station leads to from a state
-abbrev pub after_up : ℕ → ℕ → ℕ
+unfoldable pub after_up : ℕ → ℕ → ℕ
 after_up k i = cond (nat_lt i k) 0 k
 
 -- where a down station leads to
-abbrev pub after_down : ℕ → ℕ → ℕ
+unfoldable pub after_down : ℕ → ℕ → ℕ
 after_down k i = cond (nat_lt i k) (cond (nat_lt (i + 1) k) (i + 1) (2 * k)) (min (i + 1) (2 * k))
 
-abbrev pub station_code : SemiringOps → ℕ → ℕ → ℕ → ℕ → ℕ → ℕ
+unfoldable pub station_code : SemiringOps → ℕ → ℕ → ℕ → ℕ → ℕ → ℕ
 station_code S k up down i j = cond (j == after_up k i) up (cond (j == after_down k i) down S.zero)
 
 abbrev pub station_matrix : SemiringOps → ℕ → ℕ → ℕ → Matrix

@@ -41,7 +41,7 @@ abbrev pub AllPlain : (ℕ → Bool) → ℕ → Matrix → Type 0
 AllPlain plain w m = (i : ℕ) → i < w → PlainRow plain w (row m i)
 
 -- one on the diagonal
-abbrev pub delta : SemiringOps → ℕ → ℕ → ℕ
+unfoldable pub delta : SemiringOps → ℕ → ℕ → ℕ
 delta S i j = cond (i == j) S.one S.zero
 
 abbrev pub unit_matrix : SemiringOps → ℕ → Matrix

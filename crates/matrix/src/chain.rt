@@ -15,6 +15,7 @@ pub struct Chain<S> {
 
 impl<S: Semiring> Chain<S> {
     // What a station's matrix has in row i and column j: its weights where it leads, zero elsewhere.
+    #[tactic(auto, unfolding(crate::specs::Chain::station_code))]
     fn station_code(&self, up: u64, down: u64, i: usize, j: usize) -> u64
         ensures { result ≡ station_code (S.Semiring.ops self.now.semiring) self.now.threshold.k up down i j }
     {
@@ -28,6 +29,7 @@ impl<S: Semiring> Chain<S> {
     }
 
     // What the unit matrix has there: one on the diagonal, zero elsewhere.
+    #[tactic(auto, unfolding(crate::specs::Matrix::delta))]
     fn unit_code(&self, i: usize, j: usize) -> u64
         ensures { result ≡ delta (S.Semiring.ops self.now.semiring) i j }
     {

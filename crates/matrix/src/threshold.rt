@@ -37,6 +37,7 @@ impl Threshold {
     }
 
     // Where an up station leads to from a state.
+    #[tactic(auto, unfolding(crate::specs::Chain::after_up))]
     pub(crate) fn after_up(self, state: usize) -> usize
         ensures { result ≡ after_up self.k state }
     {
@@ -44,6 +45,7 @@ impl Threshold {
     }
 
     // Where a down station leads to from a state.
+    #[tactic(auto, unfolding(crate::specs::Chain::after_down))]
     pub(crate) fn after_down(self, state: usize) -> usize
         ensures { result ≡ after_down self.k state }
     {

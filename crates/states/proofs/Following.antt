@@ -22,10 +22,12 @@ last_run-peak a s = grind (arith, nat_tests, rear-longest s, all_or_not s)
 
 -- up and down lead apart
 pub up_not_down : (k i : ℕ) → 1 ≤ k → after_up k i ≡ after_down k i → ⊥
+unfolding after_up after_down
 up_not_down k i low same = grind (arith, nat_tests)
 
 -- once k were down in a row, the chain tells the run at the end up to k
 led_late : (k a : ℕ) (s : State) → led k (k + min k a) s ≡ k + min k (last_run a s)
+unfolding after_up after_down
 led_late k a [] = grind arith
 led_late k a (d ∷ s) = grind (arith, nat_tests, led_late k (cond d (a + 1) 0) s, rear_cases d s)
 
@@ -34,5 +36,6 @@ abbrev pub Tells : ℕ → ℕ → State → Type 0
 Tells k j s = ((peak j s < k) × (led k j s ≡ last_run j s)) ⊎ ((k ≤ peak j s) × (led k j s ≡ k + min k (last_run j s)))
 
 pub led_tells : (k j : ℕ) (s : State) → j < k → Tells k j s
+unfolding after_up after_down
 led_tells k j [] h = grind arith
 led_tells k j (d ∷ s) h = grind (arith, nat_tests, led_tells k (cond d (j + 1) 0) s, longest-cons d s, front-longest s, rear_cases d s, led_late k (j + 1) s)

@@ -69,10 +69,12 @@ module _ (S : SemiringOps) (L : SemiringLaws S) where
 
     -- an entry of a station's row, times g: where up leads, and where down leads
     split : (u d i : ℕ) (g : ℕ → ℕ) (l : ℕ) → In S (g l) → S.product (station_code S k u d i l) (g l) ≡ S.sum (only (after_up k i) u g l) (only (after_down k i) d g l)
+    unfolding station_code
     split u d i g l hg = grind (arith, nat_tests, up_not_down k i low, L.sum_comm (S.product u (g l)) S.zero, L.sum-zero, L.zero_left (g l), product_member S L, L.zero_in)
 
     -- so the row, times g
     row : (u d i : ℕ) (g : ℕ → ℕ) → ((l : ℕ) → In S (g l)) → i < 2 * k + 1 → sum_over S (λ l. S.product (station_code S k u d i l) (g l)) (range_with_len 0 (2 * k + 1)) ≡ S.sum (S.product u (g (after_up k i))) (S.product d (g (after_down k i)))
+    unfolding after_up after_down
     row u d i g hg hi =
         sum_over_cong S _ _ (range_with_len 0 (2 * k + 1)) (λ l. split u d i g l (hg l))
         ∙ sum_over-sum S L _ _ (only_in (after_up k i) u g) (only_in (after_down k i) d g) (range_with_len 0 (2 * k + 1))
@@ -87,6 +89,7 @@ module _ (S : SemiringOps) (L : SemiringLaws S) where
 
     -- an entry, as a sum over the states
     pub paths : (xs : List Station) → Weighed S xs → (i j : ℕ) → i < 2 * k + 1 → j < 2 * k + 1 → at (chain S k xs) i j ≡ sum_over S (path S k xs i j) (states xs)
+    unfolding delta
     paths [] m i j hi hj = grind (arith, at-table (2 * k + 1) (delta S) i j, L.sum-zero, L.one_in, L.zero_in)
     paths (x ∷ xs) m i j hi hj =
         at-table (2 * k + 1) (entry S (2 * k + 1) (matrix_of S k x) (chain S k xs)) i j (omega arith) hi hj

@@ -29,9 +29,14 @@ pub in_found : {A : Type 0} (Gives : Record → Result A RecordFault → Type 0)
 in_found Gives p x (Ok a) gives = gives
 in_found Gives p x (Err f) gives = gives
 
--- a first impossible byte is in the text, or at its end, so the count does not stop before it
+-- a first impossible byte is in the text, or at its end
+pub damage_within : (s : List ℕ) (p : ℕ) (d : Damage) → Outcome s p (Some (Err d)) → p ≤ greatest_length → length s ≤ greatest_length
+    → p + d.offset ≤ greatest_length
+damage_within s p d found low short = omega (arith, found.stops.within, length-drop p s)
+
+-- so the count does not stop before it
 pub place_of_damage : (s : List ℕ) (p : ℕ) (d : Damage) (f : TextFault) → Outcome s p (Some (Err d)) → p ≤ greatest_length → length s ≤ greatest_length
     → f ≡ of_text.NotWellFormed (min greatest_length (p + d.offset)) → f ≡ of_text.NotWellFormed (p + d.offset)
 place_of_damage s p d f found low short is =
-    let within : min greatest_length (p + d.offset) ≡ p + d.offset = omega (arith, found.stops.within, length-drop p s) in
+    let within : min greatest_length (p + d.offset) ≡ p + d.offset = omega (arith, damage_within s p d found low short) in
     is ∙ ap of_text.NotWellFormed within

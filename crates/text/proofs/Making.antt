@@ -1,5 +1,5 @@
 -- The station that an add record makes: what is kept of its label tells whether the whole column is a label.
-use Rattle.std.proofs.Common.{◌≡◌, ℕ, ◌<◌, ◌≤◌, min, Bool, true, false, not, List, [], ◌∷◌, ◌++◌, length, take, replicate, Ok, Err, Result, sym, refl, ap, ◌∙◌, ⊎_elim, inl, inr, arith}
+use Rattle.std.proofs.Common.{◌≡◌, ℕ, ◌<◌, ◌≤◌, min, Bool, true, false, not, List, [], ◌∷◌, ◌++◌, length, take, replicate, Ok, Err, Result, sym, refl, ap, ◌∙◌, ⊎_elim, inr, arith}
 use Rattle.std.proofs.lemmas.Bool.{cases_lt}
 use Rattle.std.proofs.lemmas.List.{take_all, take-append-le, take-take, take_min, length-take}
 use Rattle.refusal.specs.declared.Refusal.{Refusal}
@@ -10,13 +10,10 @@ use Rattle.station.specs.Labels.{legal, station_with}
 use Rattle.text.specs.declared.add.AddColumns.{AddColumns}
 use Rattle.text.specs.declared.label.LabelColumn.{LabelColumn}
 use Rattle.text.specs.declared.record.Record.{Record}
-use Rattle.text.specs.declared.fault.RecordFault.{RecordFault}
 use Rattle.text.specs.declared.fault.RecordFault.TheVariants.{Line}
-use Rattle.text.specs.declared.words.Verb.TheVariants.{Add}
 use Rattle.text.specs.Adding.{AddColumnsAre, made_with, made_of, AddMakes, StationIs}
 use Rattle.text.specs.Columns.{column}
 use Rattle.text.specs.LabelColumns.{label_room, held, held_bytes}
-use Rattle.text.specs.Verbs.{VerbFound}
 
 held_front : (v : List ℕ) → held_bytes (held v) ≡ take label_room v
 held_front v =
@@ -56,10 +53,6 @@ made_with-held v status up down = by_legal (legal v) refl
     by_legal false e =
         ap (λ t. answered (first ((not t, 4) ∷ [])) (station_with (held_bytes (held v)) status up down)) (legal-held v ∙ e)
         ∙ sym (ap (λ t. answered (first ((not t, 4) ∷ [])) (station_with v status up down)) e)
-
--- a record with no verb is no add record
-pub no_add : (s : List ℕ) (x : Record) (f : RecordFault) → VerbFound s x (Err f) → AddColumnsAre s x (Err f)
-no_add s x f none = inl (none.1 Add, none.0)
 
 add_makes : (s : List ℕ) (x : Record) (c : AddColumns) (answer : Result Station ℕ) → AddColumnsAre s x (Ok c) → answer ≡ made_of c → AddMakes s x answer
 add_makes s x c answer h made = record {

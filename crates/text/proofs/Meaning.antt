@@ -26,6 +26,7 @@ inner_quoted r =
 
 -- a field means its content
 content-field : (r v : List ℕ) → IsField r v → content r ≡ v
+unfolding content
 content-field r v (plain {v = w} h) = ap (λ b. cond b (halved (inner w)) w) (is_quoted_plain w h)
 content-field r v (quoted {v = w} h) =
     ap (λ b. cond b (halved (inner (34 ∷ doubled w ++ 34 ∷ []))) (34 ∷ doubled w ++ 34 ∷ [])) (is_quoted_quoted (doubled w))
@@ -34,6 +35,7 @@ content-field r v (quoted {v = w} h) =
 
 -- the bytes at a place are those that are there
 raw_at-Spans : (s : List ℕ) (p : ℕ) (r : List ℕ) (e : ℕ) → Spans s p r e → raw_at s (record { from = p; to = e }) ≡ r
+unfolding raw_at
 raw_at-Spans s p r e h =
     ap (λ b. cond b (take (e - p) (drop p s)) []) (and_from _ _ (le-leb p e (omega (arith, h.far))) (le-leb e (length s) h.within))
     ∙ ap (take (e - p)) h.splits

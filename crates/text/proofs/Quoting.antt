@@ -63,9 +63,11 @@ halved_plain [] p = refl
 halved_plain (x ∷ w) p = grind (arith, halved_plain w p.1)
 
 meant_from : (r w : List ℕ) → Plains w → inner r ≡ w → content r ≡ w
+unfolding content
 meant_from r w p e = grind (arith, halved_plain w p)
 
 meant_to : (r w : List ℕ) → Plains w → content r ≡ w → inner r ≡ w
+unfolding content
 meant_to r w p e = grind (arith, unhalved (inner r) w p)
 
 pub number_meant : (r : List ℕ) (x : Option ℕ) → IsNumber (inner r) x → IsNumber (content r) x

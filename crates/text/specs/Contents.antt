@@ -21,5 +21,5 @@ abbrev pub inner : List ℕ → List ℕ
 inner r = cond (is_quoted r) (take (length r - 2) (drop 1 r)) r
 
 -- what the bytes of a field mean
-abbrev pub content : List ℕ → List ℕ
+unfoldable pub content : List ℕ → List ℕ
 content r = cond (is_quoted r) (halved (inner r)) r

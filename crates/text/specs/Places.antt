@@ -25,5 +25,5 @@ abbrev pub record_of : ℕ → List (List ℕ) → ℕ → Record
 record_of p rs next = record { fields = kept (placed p rs); count = length rs; next = next }
 
 -- the bytes of a field as they are written; none where the place is none of the text's
-abbrev pub raw_at : List ℕ → Field → List ℕ
+unfoldable pub raw_at : List ℕ → Field → List ℕ
 raw_at s f = cond (nat_le f.from f.to && nat_le f.to (length s)) (take (f.to - f.from) (drop f.from s)) []

@@ -1,7 +1,10 @@
 // Add records: their columns, and the station that one makes.
-ghost use Rattle.std.specs.Prelude.{◌≡◌};
+ghost use Rattle.std.specs.Prelude.{◌≡◌, MatchResult};
 ghost use Rattle.refusal.specs.Refusals.{by_number};
+ghost use Rattle.text.specs.declared.fault.RecordFault.TheVariants.{Unknown};
+ghost use Rattle.text.specs.declared.words.Verb.TheVariants.{Add};
 ghost use Rattle.text.specs.Adding.{AddColumnsAre, StationIs, made_of};
+ghost use Rattle.text.specs.Verbs.{IsVerbOf};
 
 use crate::fault::RecordFault;
 use crate::label::LabelColumn;
@@ -29,14 +32,22 @@ impl AddColumns {
 }
 
 impl Record {
-    // The columns of an add record; or that it is none, or its first bad column.
+    // Refuses a record that is no add record.
     #[tactic(auto, using(crate::proofs::Verbs::one_verb))]
-    pub fn add_columns(&self, text: &[u8]) -> Result<AddColumns, RecordFault>
-        ensures { AddColumnsAre text.now self.now result }
+    fn expect_add(&self, text: &[u8]) -> Result<(), RecordFault>
+        ensures { MatchResult result (λ _. IsVerbOf text.now self.now Add) (λ fault. (IsVerbOf text.now self.now Add → ⊥) × (fault ≡ Unknown)) }
     {
         if !matches!(self.verb(text)?, Verb::Add) {
             return Err(RecordFault::Unknown);
         }
+        Ok(())
+    }
+
+    // The columns of an add record; or that it is none, or its first bad column.
+    pub fn add_columns(&self, text: &[u8]) -> Result<AddColumns, RecordFault>
+        ensures { AddColumnsAre text.now self.now result }
+    {
+        self.expect_add(text)?;
         let [_, label, status, up, down] = self.fields;
         Ok(AddColumns {
             label: label.label(text),

@@ -41,6 +41,7 @@ fn verb_meant(raw: &[u8]) -> Option<Verb>
 
 impl Field {
     // The field as it is written; nothing where the place is none of the text's.
+    #[tactic(auto, unfolding(crate::specs::Places::raw_at))]
     pub fn raw<'a>(&self, text: &'a [u8]) -> &'a [u8]
         ensures { result.now ≡ raw_at text.now self.now }
     {
@@ -80,6 +81,7 @@ impl Field {
     }
 
     // What the field means, as bytes for a label, whether they are one or not.
+    #[tactic(auto, unfolding(crate::specs::Contents::content))]
     pub fn label(&self, text: &[u8]) -> LabelColumn
         ensures { result ≡ held (content (raw_at text.now self.now)) }
     {

@@ -1,5 +1,5 @@
 // Label columns: the bytes that a field means, as many as are needed to tell whether they are a label.
-ghost use Rattle.std.specs.Prelude.{◌≡◌, List, ℕ, [], ◌∷◌, ◌++◌};
+ghost use Rattle.std.specs.Prelude.{◌≡◌, ◌==◌, List, ℕ, [], ◌∷◌, ◌++◌};
 ghost use Rattle.text.specs.Contents.{halved};
 ghost use Rattle.text.specs.LabelColumns.{held, held_bytes};
 
@@ -10,6 +10,13 @@ const ROOM: usize = 25;
 pub struct LabelColumn {
     bytes: [u8; 25],
     len: usize,
+}
+
+// Whether the byte is a quote, of which a quoted field has two for each one that it means.
+fn is_quote(byte: u8) -> bool
+    ensures { result ≡ (byte == 34) }
+{
+    byte == b'"'
 }
 
 impl LabelColumn {
@@ -23,7 +30,6 @@ impl LabelColumn {
     }
 
     // The bytes as they are.
-    #[tactic(auto, using(crate::proofs::Holding::held_copied))]
     pub(crate) fn of(bytes: &[u8]) -> LabelColumn
         ensures { result ≡ held bytes.now }
     {
@@ -56,7 +62,7 @@ impl LabelColumn {
                 is_second = false;
             } else {
                 column.push(byte);
-                is_second = byte == b'"';
+                is_second = is_quote(byte);
             }
         }
         column
