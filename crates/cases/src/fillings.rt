@@ -1,5 +1,6 @@
 // Lines that are filled: adds and closes that are refused, with the first number in the order of the checks, and the longest line.
-use crate::lines::{DOWN, JUDGED, NO_RUNS, NO_STATION, answers, close, says, untouched};
+use crate::calls::{adds, answers, asks, close, rings, sets};
+use crate::lines::{DOWN, JUDGED, NO_RUNS, NO_STATION, untouched};
 use kind::runs::Runs;
 use kind::weights::Weights;
 use line::lines::Filling;
@@ -42,10 +43,17 @@ fn add_is(
     let mut line = by_seven(&mut list, 2)?;
     let label = LONG.get(..length).ok_or("no such label")?;
     assert!(rt; room <= 3);
-    answers(rt, line.add(&mut list[..room], label, judged(down)), answer);
+    adds(
+        rt,
+        &mut line,
+        &mut list[..room],
+        label,
+        judged(down),
+        answer,
+    );
     if answer.is_err() {
         assert!(rt; untouched(&list[2..]));
-        answers(rt, line.add(&mut list, b"C", judged(6)), Ok(3));
+        adds(rt, &mut line, &mut list, b"C", judged(6), Ok(3));
     }
     Ok(())
 }
@@ -53,15 +61,20 @@ fn add_is(
 // The last add is to a full line, whose list is full too.
 #[test]
 fn adds_that_are_refused(rt: HostRuntime) -> Result<(), Fail> {
-    add_is(&rt, 2, 24, 6, Err(2))?;
-    add_is(&rt, 2, 25, 7, Err(2))?;
-    add_is(&rt, 3, 25, 7, Err(4))?;
-    add_is(&rt, 3, 25, 6, Err(4))?;
-    add_is(&rt, 3, 24, 7, Err(5))?;
-    add_is(&rt, 3, 24, 6, Ok(3))?;
+    let rows = [
+        (2, 24, 6, Err(2)),
+        (2, 25, 7, Err(2)),
+        (3, 25, 7, Err(4)),
+        (3, 25, 6, Err(4)),
+        (3, 24, 7, Err(5)),
+        (3, 24, 6, Ok(3)),
+    ];
+    for (room, length, down, answer) in rows {
+        add_is(&rt, room, length, down, answer)?;
+    }
     let mut list = vec![in rt.alloc(); NO_STATION; 4096]?;
     let mut line = by_seven(&mut list, 4096)?;
-    answers(&rt, line.add(&mut list, LONG, judged(7)), Err(3));
+    adds(&rt, &mut line, &mut list, LONG, judged(7), Err(3));
     Ok(())
 }
 
@@ -85,7 +98,7 @@ fn close_is(
         Err((mut line, refusal)) => {
             answers(rt, Err(refusal), answer);
             assert!(rt; nodes == [NO_RUNS; 15]);
-            answers(rt, line.add(&mut list, b"", DOWN), Ok(stations + 1));
+            adds(rt, &mut line, &mut list, b"", DOWN, Ok(stations + 1));
         }
     }
     Ok(())
@@ -93,18 +106,25 @@ fn close_is(
 
 #[test]
 fn closes_that_are_refused(rt: HostRuntime) -> Result<(), Fail> {
-    close_is(&rt, 0, 0, 0, Err(7))?;
-    close_is(&rt, 0, 6, 15, Err(7))?;
-    close_is(&rt, 5, 5, 14, Err(2))?;
-    close_is(&rt, 5, 4, 15, Err(2))?;
-    close_is(&rt, 5, 5, 15, Ok(7))
+    let rows = [
+        (0, 0, 0, Err(7)),
+        (0, 6, 15, Err(7)),
+        (5, 5, 14, Err(2)),
+        (5, 4, 15, Err(2)),
+        (5, 5, 15, Ok(7)),
+    ];
+    for (stations, records, cells, answer) in rows {
+        close_is(&rt, stations, records, cells, answer)?;
+    }
+    Ok(())
 }
 
 // All are down but the last of the first half.
 fn longest(list: &mut [Station]) -> Result<Filling<Runs>, Refusal> {
     let mut line = Filling::new(Runs);
     for place in 1..=4096usize {
-        line.add(list, b"", if place == 2048 { JUDGED } else { DOWN })?;
+        let values = if place == 2048 { JUDGED } else { DOWN };
+        line.add(list, b"", values)?;
     }
     Ok(line)
 }
@@ -114,26 +134,40 @@ fn the_longest_line(rt: HostRuntime) -> Result<(), Fail> {
     let mut list = vec![in rt.alloc(); NO_STATION; 4097]?;
     let mut nodes = vec![in rt.alloc(); NO_RUNS; 8191]?;
     let mut line = longest(&mut list)?;
-    answers(&rt, line.add(&mut list, b"", DOWN), Err(3));
-    assert!(rt; list.get(4096..).is_some_and(untouched));
+    adds(&rt, &mut line, &mut list, b"", DOWN, Err(3));
+    let behind = list.get(4096..).ok_or("no place behind the line")?;
+    assert!(rt; untouched(behind));
     let (mut line, joins) = close(line, &list, &mut nodes)?;
     assert_eq!(rt; joins, 4095);
-    says(
+    asks(
         &rt,
-        line.ask(&list, &nodes, &[], 2, 4095),
+        &line,
+        &list,
+        &nodes,
+        &[],
+        (2, 4095),
         Ok((2047, 2046, 21)),
     );
-    says(&rt, line.ring(&list, &nodes, &[]), Ok((4095, 4095, 0)));
-    answers(
+    rings(&rt, &line, &list, &nodes, &[], Ok((4095, 4095, 0)));
+    sets(
         &rt,
-        line.set(&mut list, &mut nodes, &mut [], 2048, DOWN),
+        &mut line,
+        &mut list,
+        &mut nodes,
+        &mut [],
+        2048,
+        DOWN,
         Ok(12),
     );
-    says(
+    asks(
         &rt,
-        line.ask(&list, &nodes, &[], 2, 4095),
+        &line,
+        &list,
+        &nodes,
+        &[],
+        (2, 4095),
         Ok((4094, 4094, 21)),
     );
-    says(&rt, line.ring(&list, &nodes, &[]), Ok((4096, 4096, 0)));
+    rings(&rt, &line, &list, &nodes, &[], Ok((4096, 4096, 0)));
     Ok(())
 }

@@ -1,9 +1,9 @@
 // What kinds take and refuse, run cells that no summary has, and the order of a joining.
 use crate::refused::refused;
+use crate::stretches::{ring, window};
 use kind::Kind;
 use kind::figures::Figures;
 use kind::runs::Runs;
-use kind::stretch::{ring_of, window_of};
 use kind::summary::RunCell;
 use kind::weights::Weights;
 use semiring::counts::Counts;
@@ -21,8 +21,8 @@ fn a_code_equal_to_the_modulus(rt: HostRuntime) -> Result<(), Fail> {
         assert!(rt; weights.takes(&member));
         assert!(rt; !weights.takes(&other));
         assert!(rt; Runs.takes(&other));
-        assert_eq!(rt; refused(window_of(&weights, &[member, other])), Some(5));
-        assert_eq!(rt; refused(ring_of(&weights, &[other])), Some(5));
+        assert_eq!(rt; refused(window(&weights, &[member, other])), Some(5));
+        assert_eq!(rt; refused(ring(&weights, &[other])), Some(5));
     }
     Ok(())
 }
@@ -34,38 +34,34 @@ fn rings_that_are_too_short(rt: HostRuntime) -> Result<(), Fail> {
     for (k, n) in [(1u64, 0usize), (2, 1), (3, 2), (4, 3)] {
         let weights = Weights::new(Counts, k)?;
         assert!(rt; n < 5);
-        assert_eq!(rt; refused(ring_of(&weights, &five[0..n])), Some(8));
-        assert!(rt; ring_of(&weights, &five[0..n + 1]).is_ok());
+        assert_eq!(rt; refused(ring(&weights, &five[0..n])), Some(8));
+        assert_eq!(rt; refused(ring(&weights, &five[0..n + 1])), None);
     }
-    assert_eq!(rt; refused(ring_of(&Runs, &five[0..0])), Some(8));
-    assert!(rt; ring_of(&Runs, &five[0..1]).is_ok());
+    assert_eq!(rt; refused(ring(&Runs, &five[0..0])), Some(8));
+    assert_eq!(rt; refused(ring(&Runs, &five[0..1])), None);
     Ok(())
 }
 
 #[test]
 fn thresholds_outside(rt: HostRuntime) {
     for (k, shortest) in [(0, Err(1)), (1, Ok(1)), (4, Ok(4)), (5, Err(1))] {
-        let ring = Weights::new(Counts, k).map(|weights| weights.shortest_ring());
-        assert_eq!(rt; ring.map_err(u8::from), shortest);
+        let ring = match Weights::new(Counts, k) {
+            Ok(weights) => Ok(weights.shortest_ring()),
+            Err(refusal) => Err(u8::from(refusal)),
+        };
+        assert_eq!(rt; ring, shortest);
     }
 }
 
 #[test]
 fn no_station(rt: HostRuntime) -> Result<(), Fail> {
+    let [first, second] = [0, 1];
     assert_eq!(rt;
-        window_of(&Weights::new(Counts, 2)?, &[])?,
-        Figures {
-            first: 0,
-            second: 1,
-        }
+        window(&Weights::new(Counts, 2)?, &[])?,
+        Figures { first, second }
     );
-    assert_eq!(rt;
-        window_of(&Runs, &[])?,
-        Figures {
-            first: 0,
-            second: 0,
-        }
-    );
+    let [first, second] = [0, 0];
+    assert_eq!(rt; window(&Runs, &[])?, Figures { first, second });
     Ok(())
 }
 
@@ -101,23 +97,12 @@ fn run_cells(rt: HostRuntime) {
 // Counts of runs stop at 4,294,967,295.
 #[test]
 fn runs_stop(rt: HostRuntime) {
+    let [first, second] = [4_294_967_295; 2];
     let most = Runs.from_cell(&cell(true, 4_294_967_295, 4_294_967_295, 4_294_967_295));
     let joined = Runs.join(&most, &most);
-    assert_eq!(rt;
-        Runs.window_figures(&joined),
-        Figures {
-            first: 4_294_967_295,
-            second: 4_294_967_295,
-        }
-    );
+    assert_eq!(rt; Runs.window_figures(&joined), Figures { first, second });
     let ends = Runs.from_cell(&cell(false, 4_000_000_000, 4_000_000_000, 4_000_000_000));
-    assert_eq!(rt;
-        Runs.ring_figures(&ends),
-        Figures {
-            first: 4_294_967_295,
-            second: 4_294_967_295,
-        }
-    );
+    assert_eq!(rt; Runs.ring_figures(&ends), Figures { first, second });
 }
 
 // The left stretch comes first.
@@ -125,19 +110,9 @@ fn runs_stop(rt: HostRuntime) {
 fn joining_has_an_order(rt: HostRuntime) -> Result<(), Fail> {
     let down = Runs.single(&Station::new(b"", Status::Down, 0, 0)?);
     let up = Runs.single(&Station::new(b"", Status::Up, 0, 0)?);
-    assert_eq!(rt;
-        Runs.window_figures(&Runs.join(&down, &up)),
-        Figures {
-            first: 1,
-            second: 1,
-        }
-    );
-    assert_eq!(rt;
-        Runs.window_figures(&Runs.join(&up, &down)),
-        Figures {
-            first: 1,
-            second: 0,
-        }
-    );
+    for (left, right, second) in [(&down, &up, 1), (&up, &down, 0)] {
+        let joined = Runs.join(left, right);
+        assert_eq!(rt; Runs.window_figures(&joined), Figures { first: 1, second });
+    }
     Ok(())
 }

@@ -2,6 +2,8 @@
 #![tactic(auto)]
 
 #[cfg(test)]
+mod calls;
+#[cfg(test)]
 mod fillings;
 #[cfg(test)]
 mod kinds;
@@ -9,6 +11,8 @@ mod kinds;
 mod lines;
 #[cfg(test)]
 mod lines_refused;
+#[cfg(test)]
+mod marked;
 #[cfg(test)]
 mod refused;
 #[cfg(test)]

@@ -1,5 +1,6 @@
 // Calls on a line that are refused: the first number in the order of the checks, and that a refused call changes nothing.
-use crate::lines::{DOWN, JUDGED, NO_ENTRY, NO_MATRIX, NO_RUNS, NO_STATION, answers, closed, says};
+use crate::calls::{asks, backs, closed, keeps, rings, sets, tries};
+use crate::lines::{DOWN, JUDGED, NO_ENTRY, NO_MATRIX, NO_RUNS, NO_STATION};
 use kind::runs::Runs;
 use kind::weights::Weights;
 use line::lines::Standing;
@@ -61,9 +62,12 @@ impl Spaces {
 
     // Matrices have no ==.
     fn holds(&self, other: &Spaces) -> bool {
-        self.list == other.list
-            && self.nodes.map(|matrix| matrix.rows) == other.nodes.map(|matrix| matrix.rows)
-            && self.journal == other.journal
+        for (matrix, other) in self.nodes.iter().zip(&other.nodes) {
+            if matrix.rows != other.rows {
+                return false;
+            }
+        }
+        self.list == other.list && self.journal == other.journal
     }
 }
 
@@ -79,29 +83,37 @@ fn set_is(
     let mut line = spaces.tried(by_seven()?, 1)?;
     let before = spaces;
     assert!(rt; records <= 2 && cells <= 3 && entries <= 2);
-    let set = line.set(
+    sets(
+        rt,
+        &mut line,
         &mut spaces.list[..records],
         &mut spaces.nodes[..cells],
         &mut spaces.journal[..entries],
         place,
         judged(down),
+        answer,
     );
-    answers(rt, set, answer);
     assert!(rt; answer.is_ok() || spaces.holds(&before));
-    answers(rt, line.keep(), Ok(if answer.is_ok() { 2 } else { 1 }));
+    keeps(rt, &mut line, Ok(if answer.is_ok() { 2 } else { 1 }));
     Ok(())
 }
 
 #[test]
 fn sets_that_are_refused(rt: HostRuntime) -> Result<(), Fail> {
-    set_is(&rt, (1, 3, 2), 1, 6, Err(2))?;
-    set_is(&rt, (2, 2, 2), 1, 6, Err(2))?;
-    set_is(&rt, (2, 3, 0), 0, 7, Err(2))?;
-    set_is(&rt, (2, 3, 1), 0, 7, Err(6))?;
-    set_is(&rt, (2, 3, 1), 3, 7, Err(6))?;
-    set_is(&rt, (2, 3, 1), 2, 7, Err(5))?;
-    set_is(&rt, (2, 3, 1), 2, 6, Err(11))?;
-    set_is(&rt, (2, 3, 2), 2, 6, Ok(1))
+    let rows = [
+        ((1, 3, 2), 1, 6, Err(2)),
+        ((2, 2, 2), 1, 6, Err(2)),
+        ((2, 3, 0), 0, 7, Err(2)),
+        ((2, 3, 1), 0, 7, Err(6)),
+        ((2, 3, 1), 3, 7, Err(6)),
+        ((2, 3, 1), 2, 7, Err(5)),
+        ((2, 3, 1), 2, 6, Err(11)),
+        ((2, 3, 2), 2, 6, Ok(1)),
+    ];
+    for (rooms, place, down, answer) in rows {
+        set_is(&rt, rooms, place, down, answer)?;
+    }
+    Ok(())
 }
 
 // Outside a trial keep and back are refused, back whatever the spaces are, and a set needs no journal; in a trial another try is refused.
@@ -110,22 +122,32 @@ fn trials_that_are_refused(rt: HostRuntime) -> Result<(), Fail> {
     let mut list = [NO_STATION; 2];
     let mut nodes = [NO_RUNS; 3];
     let mut line = closed(Runs, &mut list, &mut nodes, &[JUDGED; 2])?;
-    answers(&rt, line.keep(), Err(10));
-    answers(&rt, line.back(&mut [], &mut [], &[]), Err(10));
-    answers(
+    keeps(&rt, &mut line, Err(10));
+    backs(&rt, &mut line, &mut [], &mut [], &[], Err(10));
+    sets(
         &rt,
-        line.set(&mut list, &mut nodes, &mut [], 1, DOWN),
+        &mut line,
+        &mut list,
+        &mut nodes,
+        &mut [],
+        1,
+        DOWN,
         Ok(1),
     );
-    answers(&rt, line.open_trial(), Ok(0));
-    answers(&rt, line.open_trial(), Err(9));
-    answers(
+    tries(&rt, &mut line, Ok(0));
+    tries(&rt, &mut line, Err(9));
+    sets(
         &rt,
-        line.set(&mut list, &mut nodes, &mut [], 1, DOWN),
+        &mut line,
+        &mut list,
+        &mut nodes,
+        &mut [],
+        1,
+        DOWN,
         Err(11),
     );
-    answers(&rt, line.keep(), Ok(0));
-    answers(&rt, line.keep(), Err(10));
+    keeps(&rt, &mut line, Ok(0));
+    keeps(&rt, &mut line, Err(10));
     Ok(())
 }
 
@@ -138,10 +160,10 @@ fn cannot_be_put_back(
 ) {
     let before = *spaces;
     let Spaces { list, nodes, .. } = spaces;
-    answers(rt, line.back(list, nodes, &journal), Err(12));
-    answers(rt, line.back(list, &mut nodes[..2], &journal), Err(2));
+    backs(rt, line, list, nodes, &journal, Err(12));
+    backs(rt, line, list, &mut nodes[..2], &journal, Err(2));
     assert!(rt; spaces.holds(&before));
-    answers(rt, line.open_trial(), Err(9));
+    tries(rt, line, Err(9));
 }
 
 // An entry whose place the line of two does not have, or whose code the kind does not take, older or newer than a good one. The trial stays open, and can be taken
@@ -168,9 +190,9 @@ fn entries_that_cannot_be_put_back(rt: HostRuntime) -> Result<(), Fail> {
         nodes,
         journal,
     } = &mut spaces;
-    says(&rt, line.ask(list, nodes, journal, 1, 2), Ok((6, 6, 0)));
-    answers(&rt, line.back(list, nodes, journal), Ok(2));
-    says(&rt, line.ask(list, nodes, journal, 1, 2), Ok((1, 3, 0)));
+    asks(&rt, &line, list, nodes, journal, (1, 2), Ok((6, 6, 0)));
+    backs(&rt, &mut line, list, nodes, journal, Ok(2));
+    asks(&rt, &line, list, nodes, journal, (1, 2), Ok((1, 3, 0)));
     Ok(())
 }
 
@@ -181,12 +203,20 @@ fn are_refused(
     list: &[Station],
     nodes: &[Matrix],
     journal: &[Entry],
-    ring: u8,
-    window: u8,
+    by_ring: u8,
+    by_window: u8,
 ) {
-    says(rt, line.ring(list, nodes, journal), Err(ring));
+    rings(rt, line, list, nodes, journal, Err(by_ring));
     for (first, last) in [(0, 1), (2, 1), (1, 3)] {
-        says(rt, line.ask(list, nodes, journal, first, last), Err(window));
+        asks(
+            rt,
+            line,
+            list,
+            nodes,
+            journal,
+            (first, last),
+            Err(by_window),
+        );
     }
 }
 
@@ -204,6 +234,6 @@ fn questions_that_are_refused(rt: HostRuntime) -> Result<(), Fail> {
     are_refused(&rt, &line, &list[..1], nodes, journal, 2, 2);
     are_refused(&rt, &line, list, &nodes[..2], journal, 2, 2);
     are_refused(&rt, &line, list, nodes, &[], 2, 2);
-    says(&rt, line.ask(list, nodes, journal, 1, 2), Ok((0, 12, 0)));
+    asks(&rt, &line, list, nodes, journal, (1, 2), Ok((0, 12, 0)));
     Ok(())
 }

@@ -1,8 +1,7 @@
 // Requests played on a line: the rulebook's session, requests that the line, as it stands, does not take, and trials. What they answer is
 // worked out by hand from the stations.
-use crate::lines::{
-    DOWN, JUDGED, NO_ENTRY, NO_MATRIX, NO_RUNS, NO_STATION, cell, closed, untouched,
-};
+use crate::calls::closed;
+use crate::lines::{DOWN, JUDGED, NO_ENTRY, NO_MATRIX, NO_RUNS, NO_STATION, cell, untouched};
 use crate::refused::refused;
 use history::shipped::{play_runs, play_weights};
 use history::step::Line;

@@ -74,16 +74,18 @@ fn costs_stop_and_none_absorbs(rt: HostRuntime) {
     assert!(rt; !Costs.is_member(1_000_000_000_002));
 }
 
+// The sum and the product of a list.
+fn list_is<S: Semiring>(rt: &impl Abort, semiring: &S, codes: &[u64], sum: u64, product: u64) {
+    assert_eq!(rt; sum_all(semiring, codes), sum);
+    assert_eq!(rt; product_all(semiring, codes), product);
+}
+
 #[test]
 fn lists_start_at_zero_and_one(rt: HostRuntime) {
-    assert_eq!(rt; sum_all(&Counts, &[]), 0);
-    assert_eq!(rt; product_all(&Counts, &[]), 1);
-    assert_eq!(rt; sum_all(&Costs, &[]), 1_000_000_000_001);
-    assert_eq!(rt; product_all(&Costs, &[]), 0);
-    assert_eq!(rt; sum_all(&Counts, &[2, 3, 5]), 10);
-    assert_eq!(rt; product_all(&Counts, &[2, 3, 5]), 30);
-    assert_eq!(rt; sum_all(&Costs, &[8, 3, 5]), 3);
-    assert_eq!(rt; product_all(&Costs, &[8, 3, 5]), 16);
+    list_is(&rt, &Counts, &[], 0, 1);
+    list_is(&rt, &Costs, &[], 1_000_000_000_001, 0);
+    list_is(&rt, &Counts, &[2, 3, 5], 10, 30);
+    list_is(&rt, &Costs, &[8, 3, 5], 3, 16);
 }
 
 #[test]

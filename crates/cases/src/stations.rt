@@ -1,9 +1,11 @@
 // Labels of every length, records that are the same, and the weights of each status.
 use crate::refused::refused;
 use refusal::Refusal;
+use semiring::Semiring;
 use semiring::costs::Costs;
 use semiring::counts::Counts;
 use station::record::{Station, Status};
+use std::process::Abort;
 use std::test::Fail;
 
 fn made(label: &[u8]) -> Result<Station, Refusal> {
@@ -22,13 +24,9 @@ fn labels_that_are_taken(rt: HostRuntime) -> Result<(), Fail> {
     for label in labels {
         let station = made(label)?;
         assert!(rt; station.label() == label);
-        assert!(rt;
-            station
-                .label
-                .iter()
-                .skip(label.len())
-                .all(|byte| *byte == 0)
-        );
+        for byte in station.label.iter().skip(label.len()) {
+            assert_eq!(rt; *byte, 0);
+        }
     }
     Ok(())
 }
@@ -64,28 +62,40 @@ fn what_stands_behind_a_label_is_no_part_of_it(rt: HostRuntime) -> Result<(), Fa
 #[test]
 fn records_differ_by_label_status_and_codes(rt: HostRuntime) -> Result<(), Fail> {
     let a = made(b"North")?;
-    assert!(rt; a == made(b"North")?);
-    assert!(rt; a != made(b"Nort")?);
-    assert!(rt; a != Station::new(b"North", Status::Up, 9, 1)?);
-    assert!(rt; a != Station::new(b"North", Status::Judged, 8, 1)?);
-    assert!(rt; a != Station::new(b"North", Status::Judged, 9, 2)?);
+    let rows: [(&[u8], Status, u64, u64, bool); 5] = [
+        (b"North", Status::Judged, 9, 1, true),
+        (b"Nort", Status::Judged, 9, 1, false),
+        (b"North", Status::Up, 9, 1, false),
+        (b"North", Status::Judged, 8, 1, false),
+        (b"North", Status::Judged, 9, 2, false),
+    ];
+    for (label, status, up, down, is_same) in rows {
+        let b = Station::new(label, status, up, down)?;
+        assert_eq!(rt; a == b, is_same);
+    }
     Ok(())
+}
+
+// The up weight and the down weight.
+fn weighs<S: Semiring>(rt: &impl Abort, semiring: &S, station: &Station, weights: (u64, u64)) {
+    let (up, down) = weights;
+    assert_eq!(rt; station.up_weight(semiring), up);
+    assert_eq!(rt; station.down_weight(semiring), down);
 }
 
 #[test]
 fn weights_by_status(rt: HostRuntime) -> Result<(), Fail> {
+    let none = 1_000_000_000_001;
     let rows = [
-        (Status::Judged, 9, 4, 9, 4),
-        (Status::Down, 0, 4, 1_000_000_000_001, 4),
-        (Status::Up, 9, 0, 9, 1_000_000_000_001),
-        (Status::Bypass, 1, 0, 0, 1_000_000_000_001),
+        (Status::Judged, (9, 4), (9, 4)),
+        (Status::Down, (0, 4), (none, 4)),
+        (Status::Up, (9, 0), (9, none)),
+        (Status::Bypass, (1, 0), (0, none)),
     ];
-    for (status, up, down, cost_up, cost_down) in rows {
+    for (status, counts, costs) in rows {
         let station = Station::new(b"", status, 9, 4)?;
-        assert_eq!(rt; station.up_weight(&Counts), up);
-        assert_eq!(rt; station.down_weight(&Counts), down);
-        assert_eq!(rt; station.up_weight(&Costs), cost_up);
-        assert_eq!(rt; station.down_weight(&Costs), cost_down);
+        weighs(&rt, &Counts, &station, counts);
+        weighs(&rt, &Costs, &station, costs);
     }
     Ok(())
 }

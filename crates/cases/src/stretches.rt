@@ -1,10 +1,12 @@
 // Figures of longer stretches, held against tables that tools/expected_figures.py --stretches made by going through every state.
+use crate::marked::marked;
 use examples::first_decides::FirstDecides;
 use kind::Kind;
 use kind::figures::Figures;
 use kind::runs::Runs;
 use kind::stretch::{ring_of, window_of};
 use kind::weights::Weights;
+use refusal::Refusal;
 use semiring::Semiring;
 use semiring::costs::Costs;
 use semiring::counts::Counts;
@@ -26,13 +28,21 @@ const MIXED: [(Status, u64, u64); 9] = [
     (Status::Down, 3, 2),
 ];
 
-fn mixed() -> [Station; 9] {
-    MIXED.map(|(status, up, down)| Station {
-        label: [0; 24],
-        status,
-        up,
-        down,
-    })
+fn mixed() -> Result<[Station; 9], Refusal> {
+    let mut stations = [Station::new(b"", Status::Judged, 0, 0)?; 9];
+    for (station, (status, up, down)) in stations.iter_mut().zip(MIXED) {
+        *station = Station::new(b"", status, up, down)?;
+    }
+    Ok(stations)
+}
+
+// The calls that tests make of a stretch, each in a function without a contract, so that its contract is read once.
+pub(crate) fn window<K: Kind>(kind: &K, stations: &[Station]) -> Result<Figures, Refusal> {
+    window_of(kind, stations)
+}
+
+pub(crate) fn ring<K: Kind>(kind: &K, stations: &[Station]) -> Result<Figures, Refusal> {
+    ring_of(kind, stations)
 }
 
 // The window's figures, and the ring's.
@@ -40,13 +50,13 @@ fn both<K: Kind>(
     rt: &impl Abort,
     kind: &K,
     stations: &[Station],
-    window: (u64, u64),
-    ring: (u64, u64),
+    of_window: (u64, u64),
+    of_ring: (u64, u64),
 ) -> Result<(), Fail> {
-    let (first, second) = window;
-    assert_eq!(rt; window_of(kind, stations)?, Figures { first, second });
-    let (first, second) = ring;
-    assert_eq!(rt; ring_of(kind, stations)?, Figures { first, second });
+    let Figures { first, second } = window(kind, stations)?;
+    assert_eq!(rt; (first, second), of_window);
+    let Figures { first, second } = ring(kind, stations)?;
+    assert_eq!(rt; (first, second), of_ring);
     Ok(())
 }
 
@@ -59,7 +69,7 @@ fn of_mixed_stations<S: Semiring>(
     rows: [MixedRow; 4],
 ) -> Result<(), Fail> {
     for (k, window, ring) in rows {
-        both(rt, &Weights::new(semiring, k)?, &mixed(), window, ring)?;
+        both(rt, &Weights::new(semiring, k)?, &mixed()?, window, ring)?;
     }
     Ok(())
 }
@@ -107,10 +117,8 @@ fn the_order_of_stations_counts(rt: HostRuntime) -> Result<(), Fail> {
     both(&rt, &weights, &[mild, sharp], (1, 3), (1, 3))
 }
 
-// Runs of statuses, d for down and u for up.
 #[test]
 fn runs_of_statuses(rt: HostRuntime) -> Result<(), Fail> {
-    let up = Station::new(b"", Status::Up, 0, 0)?;
     let rows: [(&[u8], (u64, u64), (u64, u64)); 11] = [
         (b"d", (1, 1), (1, 1)),
         (b"u", (0, 0), (0, 0)),
@@ -125,15 +133,7 @@ fn runs_of_statuses(rt: HostRuntime) -> Result<(), Fail> {
         (b"ddddd", (5, 5), (5, 5)),
     ];
     for (marks, window, ring) in rows {
-        // as many as there are marks, in fixed memory
-        let mut stations = [up; 6];
-        let n = marks.len().min(6);
-        for (mark, station) in marks.iter().zip(stations.iter_mut()) {
-            if *mark == b'd' {
-                station.status = Status::Down;
-            }
-        }
-        both(&rt, &Runs, &stations[0..n], window, ring)?;
+        both(&rt, &Runs, &marked(rt.alloc(), marks)?, window, ring)?;
     }
     Ok(())
 }

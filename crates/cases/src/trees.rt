@@ -1,16 +1,17 @@
 // Trees: what their nodes hold, what they answer in how many joins, what they refuse and what they leave alone. The nodes of small lines, from
 // the stations under each, and the joins are those of tools/expected_figures.py --trees; what garbage gives is worked out by hand.
+use crate::marked::{marked, station};
 use crate::refused::refused;
+use crate::stretches::window;
 use examples::first_decides::FirstDecides;
 use kind::Kind;
 use kind::figures::Figures;
 use kind::runs::Runs;
-use kind::stretch::window_of;
 use kind::summary::{RunCell, RunSummary};
 use kind::weights::Weights;
 use refusal::Refusal;
 use semiring::counts::Counts;
-use station::record::{Station, Status};
+use station::record::Station;
 use std::alloc::{AllocError, Global};
 use std::process::Abort;
 use std::test::Fail;
@@ -33,43 +34,41 @@ fn cell((all, first, last, longest): Held) -> RunCell {
     }
 }
 
-fn station(down: bool) -> Station {
-    Station {
-        label: [0; 24],
-        status: if down { Status::Down } else { Status::Judged },
-        up: 2,
-        down: if down { 1 } else { 3 },
-    }
-}
-
-// A station for each mark, d for down and u for one that may be up.
-fn line(alloc: Global, marks: &[u8]) -> Result<Vec<Station>, AllocError> {
-    marks
-        .iter()
-        .map(|mark| station(*mark == b'd'))
-        .collect(alloc)
-}
-
 // A line, the joins of its filling, of each writing and of its whole, the figures of that, and what its nodes hold.
-type Row<'a> = (&'a [u8], usize, usize, usize, (u64, u64), &'a [Held]);
+#[derive(Clone, Copy)]
+struct Row<'a> {
+    marks: &'a [u8],
+    fill_joins: usize,
+    write_joins: usize,
+    whole_joins: usize,
+    figures: (u64, u64),
+    cells: &'a [Held],
+}
 
 const ROWS: [Row<'static>; 5] = [
-    (b"d", 0, 0, 0, (1, 1), &[(true, 1, 1, 1)]),
-    (
-        b"ud",
-        1,
-        1,
-        0,
-        (1, 0),
-        &[(false, 0, 1, 1), (false, 0, 0, 0), (true, 1, 1, 1)],
-    ),
-    (
-        b"dud",
-        3,
-        2,
-        1,
-        (1, 1),
-        &[
+    Row {
+        marks: b"d",
+        fill_joins: 0,
+        write_joins: 0,
+        whole_joins: 0,
+        figures: (1, 1),
+        cells: &[(true, 1, 1, 1)],
+    },
+    Row {
+        marks: b"ud",
+        fill_joins: 1,
+        write_joins: 1,
+        whole_joins: 0,
+        figures: (1, 0),
+        cells: &[(false, 0, 1, 1), (false, 0, 0, 0), (true, 1, 1, 1)],
+    },
+    Row {
+        marks: b"dud",
+        fill_joins: 3,
+        write_joins: 2,
+        whole_joins: 1,
+        figures: (1, 1),
+        cells: &[
             (false, 1, 1, 1),
             (false, 1, 0, 1),
             (true, 1, 1, 1),
@@ -78,14 +77,14 @@ const ROWS: [Row<'static>; 5] = [
             (true, 1, 1, 1),
             (true, 0, 0, 0),
         ],
-    ),
-    (
-        b"ddud",
-        3,
-        2,
-        0,
-        (2, 2),
-        &[
+    },
+    Row {
+        marks: b"ddud",
+        fill_joins: 3,
+        write_joins: 2,
+        whole_joins: 0,
+        figures: (2, 2),
+        cells: &[
             (false, 2, 1, 2),
             (true, 2, 2, 2),
             (false, 0, 1, 1),
@@ -94,14 +93,14 @@ const ROWS: [Row<'static>; 5] = [
             (false, 0, 0, 0),
             (true, 1, 1, 1),
         ],
-    ),
-    (
-        b"dddud",
-        7,
-        3,
-        1,
-        (3, 3),
-        &[
+    },
+    Row {
+        marks: b"dddud",
+        fill_joins: 7,
+        write_joins: 3,
+        whole_joins: 1,
+        figures: (3, 3),
+        cells: &[
             (false, 3, 1, 3),
             (false, 3, 0, 3),
             (true, 1, 1, 1),
@@ -118,7 +117,7 @@ const ROWS: [Row<'static>; 5] = [
             (true, 0, 0, 0),
             (true, 0, 0, 0),
         ],
-    ),
+    },
 ];
 
 // The nodes from the first on hold these, and all behind them what they held.
@@ -131,18 +130,46 @@ fn hold(rt: &impl Abort, nodes: &[RunCell], cells: &[Held]) {
     }
 }
 
+// The calls on a tree that these tests make, each in a function without a contract, so that its contract is read once.
+fn filled<K: Kind>(
+    kind: K,
+    list: &[Station],
+    nodes: &mut [K::Cell],
+) -> Result<(Tree<K>, usize), Refusal> {
+    Tree::fill(kind, list, nodes)
+}
+
+fn written<K: Kind>(
+    tree: &Tree<K>,
+    nodes: &mut [K::Cell],
+    place: usize,
+    station: &Station,
+) -> Result<usize, Refusal> {
+    tree.write(nodes, place, station)
+}
+
+fn gathered<K: Kind>(
+    tree: &Tree<K>,
+    nodes: &[K::Cell],
+    first: usize,
+    last: usize,
+) -> Result<Gathered<K::Element>, Refusal> {
+    tree.gather(nodes, first, last)
+}
+
+fn gathered_all<K: Kind>(
+    tree: &Tree<K>,
+    nodes: &[K::Cell],
+) -> Result<Gathered<K::Element>, Refusal> {
+    tree.gather_all(nodes)
+}
+
 // The whole of the line, and each place by itself.
-fn ask(
-    rt: &impl Abort,
-    tree: &Tree<Runs>,
-    nodes: &[RunCell],
-    marks: &[u8],
-    whole: (usize, (u64, u64)),
-) -> Result<(), Fail> {
-    let Gathered { element, joins } = tree.gather_all(nodes)?;
+fn ask(rt: &impl Abort, tree: &Tree<Runs>, nodes: &[RunCell], row: Row) -> Result<(), Fail> {
+    let Gathered { element, joins } = gathered_all(tree, nodes)?;
     let Figures { first, second } = Runs.window_figures(&element);
-    assert_eq!(rt; (joins, (first, second)), whole);
-    for (place, mark) in (1usize..).zip(marks) {
+    assert_eq!(rt; (joins, (first, second)), (row.whole_joins, row.figures));
+    for (place, mark) in (1usize..).zip(row.marks) {
         let Gathered { element, joins } = gathered(tree, nodes, place, place)?;
         let one = u32::from(*mark == b'd');
         assert_eq!(rt; joins, 0);
@@ -151,49 +178,34 @@ fn ask(
     Ok(())
 }
 
-// The calls that these tests make more than once, so that each is proved once.
-fn filled(list: &[Station], nodes: &mut [RunCell]) -> Result<(Tree<Runs>, usize), Refusal> {
-    Tree::fill(Runs, list, nodes)
+// Filled at once.
+fn fills(rt: &impl Abort, alloc: Global, row: Row) -> Result<(), Fail> {
+    let list = marked(alloc, row.marks)?;
+    let mut nodes = [cell(GARBAGE); 20];
+    let (tree, joins) = filled(Runs, &list, &mut nodes)?;
+    assert_eq!(rt; joins, row.fill_joins);
+    hold(rt, &nodes, row.cells);
+    ask(rt, &tree, &nodes, row)
 }
 
-fn written(
-    tree: &Tree<Runs>,
-    nodes: &mut [RunCell],
-    place: usize,
-    station: &Station,
-) -> Result<usize, Refusal> {
-    tree.write(nodes, place, station)
+// Written place by place, from a line that is up.
+fn writes(rt: &impl Abort, alloc: Global, row: Row) -> Result<(), Fail> {
+    let list = vec![in alloc; station(false); row.marks.len()]?;
+    let mut nodes = [cell(GARBAGE); 20];
+    let (tree, _) = filled(Runs, &list, &mut nodes)?;
+    for (place, mark) in (1usize..).zip(row.marks) {
+        let joins = written(&tree, &mut nodes, place, &station(*mark == b'd'))?;
+        assert_eq!(rt; joins, row.write_joins);
+    }
+    hold(rt, &nodes, row.cells);
+    Ok(())
 }
 
-fn gathered(
-    tree: &Tree<Runs>,
-    nodes: &[RunCell],
-    first: usize,
-    last: usize,
-) -> Result<Gathered<RunSummary>, Refusal> {
-    tree.gather(nodes, first, last)
-}
-
-// Filled at once, and written place by place from a line that is up.
 #[test]
 fn nodes_of_small_lines(rt: HostRuntime) -> Result<(), Fail> {
-    for (marks, fill_joins, write_joins, whole_joins, figures, cells) in ROWS {
-        let mut list = line(rt.alloc(), marks)?;
-        let mut nodes = [cell(GARBAGE); 20];
-        let (tree, joins) = filled(&list, &mut nodes)?;
-        assert_eq!(rt; joins, fill_joins);
-        hold(&rt, &nodes, cells);
-        ask(&rt, &tree, &nodes, marks, (whole_joins, figures))?;
-
-        for station in list.iter_mut() {
-            station.status = Status::Up;
-        }
-        let (tree, _) = filled(&list, &mut nodes)?;
-        for (place, mark) in (1usize..).zip(marks) {
-            let joins = written(&tree, &mut nodes, place, &station(*mark == b'd'))?;
-            assert_eq!(rt; joins, write_joins);
-        }
-        hold(&rt, &nodes, cells);
+    for row in ROWS {
+        fills(&rt, rt.alloc(), row)?;
+        writes(&rt, rt.alloc(), row)?;
     }
     Ok(())
 }
@@ -230,26 +242,22 @@ fn answers<K: Kind>(
     for (first, last, expected) in windows {
         let before = first.checked_sub(1).ok_or("no window")?;
         let stretch = stations.get(before..*last).ok_or("no window")?;
-        let Gathered { element, joins } = tree.gather(nodes, *first, *last)?;
-        assert_eq!(rt; joins, *expected, "places {first} to {last}");
+        let Gathered { element, joins } = gathered(tree, nodes, *first, *last)?;
         let figures = tree.kind.window_figures(&element);
-        assert_eq!(rt;
-            figures,
-            window_of(&tree.kind, stretch)?,
-            "places {first} to {last}"
-        );
+        let expected = (window(&tree.kind, stretch)?, *expected);
+        assert_eq!(rt; (figures, joins), expected, "places {first} to {last}");
     }
     Ok(())
 }
 
 fn windows_of_five<K: Kind>(rt: &impl Abort, alloc: Global, kind: K) -> Result<(), Fail> {
-    let list = line(alloc, b"uduud")?;
+    let list = marked(alloc, b"uduud")?;
     let mut nodes = vec![in alloc; kind.to_cell(&kind.empty()); 15]?;
-    let (tree, _) = Tree::fill(kind, &list, &mut nodes)?;
+    let (tree, _) = filled(kind, &list, &mut nodes)?;
     answers(rt, &tree, &nodes, &list, &WINDOWS_OF_FIVE)?;
-    let Gathered { element, joins } = tree.gather_all(&nodes)?;
-    assert_eq!(rt; joins, 1);
-    assert_eq!(rt; kind.window_figures(&element), window_of(&kind, &list)?);
+    let Gathered { element, joins } = gathered_all(&tree, &nodes)?;
+    let figures = kind.window_figures(&element);
+    assert_eq!(rt; (figures, joins), (window(&kind, &list)?, 1));
     Ok(())
 }
 
@@ -274,25 +282,29 @@ const WINDOWS_OF_MOST: [Window; 9] = [
     (1, 4096, 0),
 ];
 
+// Some are down, and a run of them across the middle where that is asked for.
+fn long_line(alloc: Global, with_run: bool) -> Result<Vec<Station>, AllocError> {
+    let mut stations = Vec::new(alloc);
+    for place in 1..=4096u16 {
+        let in_run = with_run && place >= 2044 && place <= 2059;
+        stations.push(station(place / 7 % 3 == 0 || in_run))?;
+    }
+    Ok(stations)
+}
+
 #[test]
 fn the_longest_line(rt: HostRuntime) -> Result<(), Fail> {
-    let mut list: Vec<Station> = (1..=4096u16)
-        .map(|place| station(place / 7 % 3 == 0))
-        .collect(rt.alloc())?;
+    let list = long_line(rt.alloc(), false)?;
     let mut nodes = vec![in rt.alloc(); cell(GARBAGE); 8191]?;
-    let (tree, joins) = filled(&list, &mut nodes)?;
+    let (tree, joins) = filled(Runs, &list, &mut nodes)?;
     assert_eq!(rt; joins, 4095);
     answers(&rt, &tree, &nodes, &list, &WINDOWS_OF_MOST)?;
-    // a run across the middle of the tree
-    for (place, station) in (1usize..).zip(list.iter_mut()) {
-        if (2044..=2059).contains(&place) {
-            station.status = Status::Down;
-            assert_eq!(rt; written(&tree, &mut nodes, place, station)?, 12);
-        }
+    for place in 2044..=2059usize {
+        let joins = written(&tree, &mut nodes, place, &station(true))?;
+        assert_eq!(rt; joins, 12);
     }
-    answers(&rt, &tree, &nodes, &list, &WINDOWS_OF_MOST)?;
-    assert_eq!(rt; tree.gather_all(&nodes)?.joins, 0);
-    Ok(())
+    let list = long_line(rt.alloc(), true)?;
+    answers(&rt, &tree, &nodes, &list, &WINDOWS_OF_MOST)
 }
 
 // So many stations, so many nodes, and the panel's number.
@@ -311,7 +323,7 @@ fn lines_that_are_refused(rt: HostRuntime) -> Result<(), Fail> {
     for (stations, room, number) in rows {
         let list = vec![in rt.alloc(); station(true); stations]?;
         let mut nodes = vec![in rt.alloc(); cell(GARBAGE); room]?;
-        assert_eq!(rt; refused(filled(&list, &mut nodes)), number);
+        assert_eq!(rt; refused(filled(Runs, &list, &mut nodes)), number);
         if number.is_some() {
             hold(&rt, &nodes, &[]);
         }
@@ -319,36 +331,45 @@ fn lines_that_are_refused(rt: HostRuntime) -> Result<(), Fail> {
     Ok(())
 }
 
+// A tree of five.
+fn of_five() -> Result<Tree<Runs>, Refusal> {
+    let shape = Shape::try_from(5usize)?;
+    Ok(Tree { kind: Runs, shape })
+}
+
+fn gather_is(
+    rt: &impl Abort,
+    tree: &Tree<Runs>,
+    nodes: &[RunCell],
+    (first, last): (usize, usize),
+    number: u8,
+) {
+    assert_eq!(rt; refused(gathered(tree, nodes, first, last)), Some(number));
+}
+
+fn write_is(rt: &impl Abort, tree: &Tree<Runs>, nodes: &mut [RunCell], place: usize, number: u8) {
+    assert_eq!(rt;
+        refused(written(tree, nodes, place, &station(true))),
+        Some(number)
+    );
+}
+
 // Windows and places that are not those of a tree of five, with 15 nodes; with 14, every call is refused for that first.
 #[test]
 fn places_that_are_refused(rt: HostRuntime) -> Result<(), Fail> {
-    let tree = Tree {
-        kind: Runs,
-        shape: Shape::try_from(5usize)?,
-    };
+    let tree = of_five()?;
     let mut nodes = [cell(GARBAGE); 15];
-    for (first, last) in [(0usize, 1usize), (3, 2), (1, 6), (6, 6), (0, 0)] {
-        assert_eq!(rt; refused(gathered(&tree, &nodes, first, last)), Some(6));
-        assert_eq!(rt;
-            refused(gathered(&tree, &nodes[..14], first, last)),
-            Some(2)
-        );
+    for window in [(0usize, 1usize), (3, 2), (1, 6), (6, 6), (0, 0)] {
+        gather_is(&rt, &tree, &nodes, window, 6);
+        gather_is(&rt, &tree, &nodes[..14], window, 2);
     }
+    gather_is(&rt, &tree, &nodes[..14], (1, 5), 2);
+    assert_eq!(rt; refused(gathered_all(&tree, &nodes[..14])), Some(2));
     for place in [0usize, 6] {
-        assert_eq!(rt;
-            refused(written(&tree, &mut nodes, place, &station(true))),
-            Some(6)
-        );
-        assert_eq!(rt;
-            refused(written(&tree, &mut nodes[..14], place, &station(true))),
-            Some(2)
-        );
+        write_is(&rt, &tree, &mut nodes, place, 6);
+        write_is(&rt, &tree, &mut nodes[..14], place, 2);
     }
-    assert_eq!(rt;
-        refused(written(&tree, &mut nodes[..14], 5, &station(true))),
-        Some(2)
-    );
-    assert_eq!(rt; refused(tree.gather_all(&nodes[..14])), Some(2));
+    write_is(&rt, &tree, &mut nodes[..14], 5, 2);
     hold(&rt, &nodes, &[]);
     Ok(())
 }
@@ -357,22 +378,13 @@ fn places_that_are_refused(rt: HostRuntime) -> Result<(), Fail> {
 // and node 12 place 5; what no summary has counts as the empty one.
 #[test]
 fn garbage_is_used_as_it_is(rt: HostRuntime) -> Result<(), Fail> {
-    let tree = Tree {
-        kind: Runs,
-        shape: Shape::try_from(5usize)?,
-    };
+    let tree = of_five()?;
     let mut nodes = [cell(GARBAGE); 20];
     nodes[8] = cell((true, 2, 2, 2));
     nodes[11] = cell((false, 1, 0, 5));
     let Gathered { element, joins } = gathered(&tree, &nodes, 2, 5)?;
-    assert_eq!(rt; joins, 2);
-    assert_eq!(rt;
-        Runs.window_figures(&element),
-        Figures {
-            first: 5,
-            second: 3,
-        }
-    );
+    let Figures { first, second } = Runs.window_figures(&element);
+    assert_eq!(rt; (first, second, joins), (5, 3, 2));
     assert_eq!(rt; written(&tree, &mut nodes, 1, &station(true))?, 3);
     let mut expected = [GARBAGE; 12];
     expected[0] = (true, 3, 3, 3);

@@ -54,7 +54,11 @@ fn station(place: u16) -> Station {
 }
 
 fn stations(alloc: Global) -> Result<Vec<Station>, AllocError> {
-    (1..=STATIONS).map(station).collect(alloc)
+    let mut list = Vec::new(alloc);
+    for place in 1..=STATIONS {
+        list.push(station(place))?;
+    }
+    Ok(list)
 }
 
 // What stands at a place later, where that is another station. With the last two down, the ring is broken at the seam, and no stretch is.
@@ -154,7 +158,7 @@ fn show_kind<K: Kind>(rt: &HostRuntime, kind: K, name: &str) -> Result<(), Troub
     let empty = kind.to_cell(&kind.empty());
     let room = Shape::try_from(list.len())?.nodes();
     let mut nodes = vec![in rt.alloc(); empty; room]?;
-    let (tree, joins) = Tree::fill(kind, &list, &mut nodes)?;
+    let (tree, joins) = asked::filled(kind, &list, &mut nodes)?;
     println!(rt; "{name}: filled, joins {joins}")?;
     show_windows(rt, &tree, &nodes, &list)?;
     show_whole(rt, &tree, &nodes, &list)?;

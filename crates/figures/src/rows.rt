@@ -14,7 +14,6 @@ use semiring::costs::Costs;
 use semiring::counts::Counts;
 use semiring::residues::Residues;
 use station::record::{Station, Status};
-use tree::tree::Tree;
 
 // As many nodes as five stations need.
 const ROOM: usize = 15;
@@ -38,7 +37,7 @@ struct Both {
 
 fn answers<K: Kind>(rt: &HostRuntime, kind: &K, list: &[Station]) -> Result<Both, Trouble> {
     let mut nodes = vec![in rt.alloc(); kind.to_cell(&kind.empty()); ROOM]?;
-    let (tree, _) = Tree::fill(*kind, list, &mut nodes)?;
+    let (tree, _) = asked::filled(*kind, list, &mut nodes)?;
     Ok(Both {
         window: asked::whole(&tree, &nodes),
         ring: asked::ring(&tree, &nodes),
@@ -97,7 +96,7 @@ fn even_counts(rt: &HostRuntime) -> Result<(), Trouble> {
 
 fn middle<K: Kind>(rt: &HostRuntime, kind: &K, five: &[Station]) -> Result<(), Trouble> {
     let mut nodes = vec![in rt.alloc(); kind.to_cell(&kind.empty()); ROOM]?;
-    let (tree, _) = Tree::fill(*kind, five, &mut nodes)?;
+    let (tree, _) = asked::filled(*kind, five, &mut nodes)?;
     let answer = asked::window(&tree, &nodes, 2, 4);
     println!(rt; "counts, k 3, places 2 to 4 of 5, each 1 and 1")?;
     report::answer(rt, "window", answer)?;

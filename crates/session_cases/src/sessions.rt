@@ -17,7 +17,12 @@ const GARBAGE: u8 = 7;
 
 // Whether the space was left as it was from the place on.
 fn is_garbage_from(space: &[u8], place: usize) -> bool {
-    space.iter().skip(place).all(|&byte| byte == GARBAGE)
+    for byte in space.iter().skip(place) {
+        if *byte != GARBAGE {
+            return false;
+        }
+    }
+    true
 }
 
 impl Session {

@@ -7,15 +7,23 @@ use text::fault::{RecordFault, TextFault};
 use text::record::read_record;
 use text::station_text::write_stations;
 
+// Whether a space still has the sevens from the place on.
+fn is_left_from(room: &[u8], place: usize) -> bool {
+    for byte in room.iter().skip(place) {
+        if *byte != 7 {
+            return false;
+        }
+    }
+    true
+}
+
 // Whether an answer tells the text's length, and leaves a space of sevens with the text where it fits and else as it was.
 fn told(answer: &Answer, text: &[u8], room: &mut [u8]) -> bool {
     let fits = text.len() <= room.len();
     room.fill(7);
     let needed = answer.write(room);
     let written = if fits { text } else { &[] };
-    needed == text.len()
-        && room.starts_with(written)
-        && room.iter().skip(written.len()).all(|&byte| byte == 7)
+    needed == text.len() && room.starts_with(written) && is_left_from(room, written.len())
 }
 
 fn refused(fault: TextFault, record_number: usize, start: usize) -> Answer {
