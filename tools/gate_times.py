@@ -62,22 +62,30 @@ def labelled(call, name):
     return run
 
 
+def row(name, proof, seed, tests, edits, dearest):
+    """Prints a row of the table; an amount that is none is left out."""
+    every = sum(edits)
+    seconds = lambda amount: f"{amount:.0f}" if amount else ""
+    average = every / len(edits) if edits else 0
+    amounts = [seconds(proof), seconds(seed), seconds(tests), str(len(edits) or ""), seconds(every), seconds(average)]
+    print("| " + " | ".join([name, *amounts, dearest]) + " |")
+
+
 def table():
     crates = [line.split("#")[0].split(":")[0].split()[0] for line in open("crates.txt") if line.split("#")[0].strip()]
-    print("| crate | proof | once more, for its edits | tests | edits | all its edits | the dearest |")
-    print("|---|---|---|---|---|---|---|")
-    whole, lists = 0, []
+    print("| crate | proof | once more, for its edits | tests | edits | all its edits | an edit, on average | the dearest |")
+    print("|---|---|---|---|---|---|---|---|")
+    kinds, of_edits, lists = ("proof", "seed", "tests"), [], []
     for crate in crates:
         of = [it for it in checks if it.crate == crate]
-        time = {what: sum(it.seconds for it in of if it.what == what) for what in ("proof", "seed", "tests")}
+        times = [sum(it.seconds for it in of if it.what == what) for what in kinds]
         edits = sorted(((it.seconds, it.what[5:-5]) for it in of if it.what.startswith("edit:")), reverse=True)
-        every = sum(it for it, _ in edits)
-        whole += sum(time.values()) + every
-        dearest = f"`{edits[0][1]}`, {edits[0][0]:.0f}" if edits else ""
-        print(f"| `{crate}` | {time['proof']:.0f} | {time['seed']:.0f} | {time['tests']:.0f} | {len(edits)} | {every:.0f} | {dearest} |")
+        of_edits += [it for it, _ in edits]
+        row(f"`{crate}`", *times, [it for it, _ in edits], f"`{edits[0][1]}` {edits[0][0]:.0f}" if edits else "")
         if edits:
             lists.append(f"- `{crate}`: " + ", ".join(f"{name} {it:.0f}" for it, name in edits))
-    print(f"\nTogether {whole / 60:.0f} processor minutes.\n")
+    row("together", *[sum(it.seconds for it in checks if it.what == what) for what in kinds], of_edits, "")
+    print(f"\nThe whole: {sum(it.seconds for it in checks) / 60:.0f} processor minutes.\n")
     print("\n".join(lists))
 
 
