@@ -1,15 +1,19 @@
 // What kinds take and refuse, run cells that no summary has, and the order of a joining.
+use crate::lines::cell;
 use crate::refused::refused;
 use crate::stretches::{ring, window};
 use kind::Kind;
 use kind::figures::Figures;
 use kind::runs::Runs;
-use kind::summary::RunCell;
 use kind::weights::Weights;
 use semiring::counts::Counts;
 use semiring::residues::Residues;
 use station::record::{Station, Status};
 use std::test::Fail;
+
+fn figures(first: u64, second: u64) -> Figures {
+    Figures { first, second }
+}
 
 // A code that is no member is not taken, whatever the status makes of it.
 #[test]
@@ -55,54 +59,41 @@ fn thresholds_outside(rt: HostRuntime) {
 
 #[test]
 fn no_station(rt: HostRuntime) -> Result<(), Fail> {
-    let [first, second] = [0, 1];
-    assert_eq!(rt;
-        window(&Weights::new(Counts, 2)?, &[])?,
-        Figures { first, second }
-    );
-    let [first, second] = [0, 0];
-    assert_eq!(rt; window(&Runs, &[])?, Figures { first, second });
+    let weights = Weights::new(Counts, 2)?;
+    assert_eq!(rt; window(&weights, &[])?, figures(0, 1));
+    assert_eq!(rt; window(&Runs, &[])?, figures(0, 0));
     Ok(())
-}
-
-fn cell(all: bool, first: u32, last: u32, longest: u32) -> RunCell {
-    RunCell {
-        all,
-        first,
-        last,
-        longest,
-    }
 }
 
 // A cell that breaks what every summary keeps stands for the empty one.
 #[test]
 fn run_cells(rt: HostRuntime) {
     let rows = [
-        (cell(false, 1, 2, 3), (3, 1)),
-        (cell(true, 3, 3, 3), (3, 3)),
-        (cell(false, 3, 3, 3), (3, 3)),
-        (cell(false, 4, 2, 3), (0, 0)),
-        (cell(false, 1, 4, 3), (0, 0)),
-        (cell(true, 2, 3, 3), (0, 0)),
-        (cell(true, 3, 2, 3), (0, 0)),
+        (cell(false, 1, 2, 3), figures(3, 1)),
+        (cell(true, 3, 3, 3), figures(3, 3)),
+        (cell(false, 3, 3, 3), figures(3, 3)),
+        (cell(false, 4, 2, 3), figures(0, 0)),
+        (cell(false, 1, 4, 3), figures(0, 0)),
+        (cell(true, 2, 3, 3), figures(0, 0)),
+        (cell(true, 3, 2, 3), figures(0, 0)),
     ];
-    for (cell, (first, second)) in rows {
+    for (cell, expected) in rows {
         let summary = Runs.from_cell(&cell);
-        assert_eq!(rt; Runs.window_figures(&summary), Figures { first, second });
+        assert_eq!(rt; Runs.window_figures(&summary), expected);
         let again = Runs.from_cell(&Runs.to_cell(&summary));
-        assert_eq!(rt; Runs.window_figures(&again), Figures { first, second });
+        assert_eq!(rt; Runs.window_figures(&again), expected);
     }
 }
 
 // Counts of runs stop at 4,294,967,295.
 #[test]
 fn runs_stop(rt: HostRuntime) {
-    let [first, second] = [4_294_967_295; 2];
+    let stopped = figures(4_294_967_295, 4_294_967_295);
     let most = Runs.from_cell(&cell(true, 4_294_967_295, 4_294_967_295, 4_294_967_295));
     let joined = Runs.join(&most, &most);
-    assert_eq!(rt; Runs.window_figures(&joined), Figures { first, second });
+    assert_eq!(rt; Runs.window_figures(&joined), stopped);
     let ends = Runs.from_cell(&cell(false, 4_000_000_000, 4_000_000_000, 4_000_000_000));
-    assert_eq!(rt; Runs.ring_figures(&ends), Figures { first, second });
+    assert_eq!(rt; Runs.ring_figures(&ends), stopped);
 }
 
 // The left stretch comes first.
@@ -112,7 +103,7 @@ fn joining_has_an_order(rt: HostRuntime) -> Result<(), Fail> {
     let up = Runs.single(&Station::new(b"", Status::Up, 0, 0)?);
     for (left, right, second) in [(&down, &up, 1), (&up, &down, 0)] {
         let joined = Runs.join(left, right);
-        assert_eq!(rt; Runs.window_figures(&joined), Figures { first: 1, second });
+        assert_eq!(rt; Runs.window_figures(&joined), figures(1, second));
     }
     Ok(())
 }
