@@ -1,4 +1,13 @@
 // A ring main of a dozen stations: what it costs at least to break it, and how long a run is down.
+ghost use Rattle.std.specs.Prelude.{◌≡◌};
+ghost use Rattle.refusal.specs.Refusals.{by_number, answered};
+ghost use Rattle.semiring.specs.Models.{costs};
+ghost use Rattle.states.specs.Runs.{longest, ring_longest};
+ghost use Rattle.states.specs.States.{failing, ring_failing};
+ghost use Rattle.kind.specs.Runs.{runs_kind, capped, marked};
+ghost use Rattle.kind.specs.Stretch.{stretch_refusal, stretch_ring_refusal};
+ghost use Rattle.kind.specs.Weights.{weights_kind};
+
 use crate::report;
 use crate::trouble::Trouble;
 use kind::runs::Runs;
@@ -28,19 +37,46 @@ fn stations() -> Result<[Station; 12], Refusal> {
     ])
 }
 
-// The stations, and the first figures of places 2 to 9 and of the whole ring: of costs the least cost of a failing state, of runs the
-// longest run down.
+// The least that it costs to break a window: the least cost of a failing state.
+fn cheapest_break(kind: &Weights<Costs>, stations: &[Station]) -> Result<u64, Refusal>
+    ensures { by_number result ≡ answered (stretch_refusal (weights_kind costs kind.now.chain.threshold.k) stations.now) (failing costs kind.now.chain.threshold.k stations.now) }
+{
+    Ok(kind.window_of(stations)?.first)
+}
+
+// The same around a ring.
+fn cheapest_ring_break(kind: &Weights<Costs>, stations: &[Station]) -> Result<u64, Refusal>
+    ensures { by_number result ≡ answered (stretch_ring_refusal (weights_kind costs kind.now.chain.threshold.k) stations.now) (ring_failing costs kind.now.chain.threshold.k stations.now) }
+{
+    Ok(kind.ring_of(stations)?.first)
+}
+
+// How many stations in a row are marked down in a window.
+fn longest_run(stations: &[Station]) -> Result<u64, Refusal>
+    ensures { by_number result ≡ answered (stretch_refusal runs_kind stations.now) (capped (longest (marked stations.now))) }
+{
+    Ok(Runs.window_of(stations)?.first)
+}
+
+// The same around a ring.
+fn longest_ring_run(stations: &[Station]) -> Result<u64, Refusal>
+    ensures { by_number result ≡ answered (stretch_ring_refusal runs_kind stations.now) (capped (ring_longest (marked stations.now))) }
+{
+    Ok(Runs.ring_of(stations)?.first)
+}
+
+// The stations, and what is said of places 2 to 9 and of the whole ring.
 fn figures(rt: &HostRuntime, list: &[Station; 12]) -> Result<(), Trouble> {
     let kind = Weights::new(Costs, IN_A_ROW)?;
     let stretch = &list[1..9];
     report::stations(rt, list)?;
-    let broken = kind.window_of(stretch)?.first;
+    let broken = cheapest_break(&kind, stretch)?;
     println!(rt; "cheapest break of places 2 to 9: {broken}")?;
-    let broken = kind.ring_of(list)?.first;
+    let broken = cheapest_ring_break(&kind, list)?;
     println!(rt; "cheapest break of the ring: {broken}")?;
-    let run = Runs.window_of(stretch)?.first;
+    let run = longest_run(stretch)?;
     println!(rt; "longest run down in places 2 to 9: {run}")?;
-    let run = Runs.ring_of(list)?.first;
+    let run = longest_ring_run(list)?;
     println!(rt; "longest run down on the ring: {run}")?;
     Ok(())
 }
