@@ -27,14 +27,14 @@ fn join_all<K: Kind>(kind: &K, stations: &[Station]) -> K::Element
     )
 }
 
-// The stations joined, where the kind takes every record.
-fn join_taken<K: Kind>(kind: &K, stations: &[Station]) -> Result<K::Element, Refusal>
-    ensures { by_number result ≡ answered (stretch_refusal (K.Kind.ops kind.now) stations.now) (joined_all (K.Kind.ops kind.now) stations.now) }
+// The refusal of a stretch that has a record which the kind does not take.
+fn check_taken<K: Kind>(kind: &K, stations: &[Station]) -> Result<(), Refusal>
+    ensures { by_number result ≡ answered (stretch_refusal (K.Kind.ops kind.now) stations.now) tt }
 {
     if !all_taken(kind, stations) {
         return Err(Refusal::NotTaken);
     }
-    Ok(join_all(kind, stations))
+    Ok(())
 }
 
 // Both figures of the stations as a window: those of their joined elements, which say what the kind's figures mean.
@@ -42,18 +42,21 @@ pub fn window_of<K: Kind>(kind: &K, stations: &[Station]) -> Result<Figures, Ref
     ensures joined { by_number result ≡ answered (stretch_refusal (K.Kind.ops kind.now) stations.now) ((K.Kind.ops kind.now).window (joined_all (K.Kind.ops kind.now) stations.now)) }
     ensures says { by_number result ≡ meant_window (K.Kind.ops kind.now) (K.Kind.meaning kind.now) stations.now }
 {
-    let element = join_taken(kind, stations)?;
+    check_taken(kind, stations)?;
+    let element = join_all(kind, stations);
     Ok(kind.window_figures(&element))
 }
 
-// Both figures of the stations as a ring. Not one function with the window's: a ring has a refusal more, and other figures.
+// Both figures of the stations as a ring. Not one function with the window's: a ring has a refusal more, and other figures. Nothing is
+// joined before the last test.
 pub fn ring_of<K: Kind>(kind: &K, stations: &[Station]) -> Result<Figures, Refusal>
     ensures joined { by_number result ≡ answered (stretch_ring_refusal (K.Kind.ops kind.now) stations.now) ((K.Kind.ops kind.now).ring (joined_all (K.Kind.ops kind.now) stations.now)) }
     ensures says { by_number result ≡ meant_ring (K.Kind.ops kind.now) (K.Kind.meaning kind.now) stations.now }
 {
-    let element = join_taken(kind, stations)?;
+    check_taken(kind, stations)?;
     if stations.len() < kind.shortest_ring() {
         return Err(Refusal::RingTooShort);
     }
+    let element = join_all(kind, stations);
     Ok(kind.ring_figures(&element))
 }
