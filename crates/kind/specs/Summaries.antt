@@ -21,6 +21,10 @@ counts e f l g = record { all = e; first = f; last = l; longest = g }
 pub is_summary : (a : RunSummary) (e : Bool) (f l g : ℕ) → a.cell.all ≡ e → a.cell.first ≡ f → a.cell.last ≡ l → a.cell.longest ≡ g → a ≡ summary e f l g
 is_summary a e f l g p q r t = same a (summary e f l g) (grind arith)
 
+-- parts that no summary has give the empty one
+pub no_summary : (e : Bool) (f l g : ℕ) → sound e f l g ≡ false → summary e f l g ≡ no_run
+no_summary e f l g h = grind arith
+
 -- the test, as facts
 record Facts (e : Bool) (f l g : ℕ) : Type 0 where
   pub low : f ≤ g

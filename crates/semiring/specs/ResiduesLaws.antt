@@ -4,7 +4,9 @@ use Rattle.std.proofs.Common.{mod-eq_of_lt, arith}
 use Rattle.std.proofs.Math.Nat.{mod-add-mod}
 use Rattle.std.proofs.lemmas.Bool.{lt-ltb, ltb-true}
 use Rattle.std.proofs.lemmas.Nat.{mul-mod_first}
-use Rattle.semiring.specs.Reduced.{Reduction}
+use Rattle.semiring.specs.Algebra.{SemiringLaws}
+use Rattle.semiring.specs.Models.{residues}
+use Rattle.semiring.specs.Reduced.{Reduction, reduced_lawful}
 
 -- a remainder may be taken before a product
 mod-product : (a z m : ℕ) → (a % m * z) % m ≡ (a * z) % m
@@ -22,3 +24,6 @@ residues_reduction m low = record {
 
 pub residues_small : (m : ℕ) → m ≤ 2147483647 → (n : ℕ) → nat_lt n m ≡ true → n < 4294967296
 residues_small m high n h = omega (arith, ltb-true)
+
+pub residues_lawful : (m : ℕ) → 2 ≤ m → SemiringLaws (residues m)
+residues_lawful m low = reduced_lawful _ _ (residues_reduction m low)
