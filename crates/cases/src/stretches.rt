@@ -1,5 +1,4 @@
 // Figures of longer stretches, held against tables that tools/expected_figures.py --stretches made by going through every state.
-use crate::marked::marked;
 use examples::first_decides::FirstDecides;
 use kind::Kind;
 use kind::figures::Figures;
@@ -117,6 +116,7 @@ fn the_order_of_stations_counts(rt: HostRuntime) -> Result<(), Fail> {
     both(&rt, &weights, &[mild, sharp], (1, 3), (1, 3))
 }
 
+// Runs of statuses, d for down and u for up.
 #[test]
 fn runs_of_statuses(rt: HostRuntime) -> Result<(), Fail> {
     let rows: [(&[u8], (u64, u64), (u64, u64)); 11] = [
@@ -132,8 +132,17 @@ fn runs_of_statuses(rt: HostRuntime) -> Result<(), Fail> {
         (b"udddu", (3, 0), (3, 0)),
         (b"ddddd", (5, 5), (5, 5)),
     ];
+    let up = Station::new(b"", Status::Up, 0, 0)?;
+    let down = Station {
+        status: Status::Down,
+        ..up
+    };
     for (marks, window, ring) in rows {
-        both(&rt, &Runs, &marked(rt.alloc(), marks)?, window, ring)?;
+        let stations: Vec<Station> = marks
+            .iter()
+            .map(|&mark| if mark == b'd' { down } else { up })
+            .collect(rt.alloc())?;
+        both(&rt, &Runs, &stations, window, ring)?;
     }
     Ok(())
 }
